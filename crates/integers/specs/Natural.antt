@@ -1,9 +1,9 @@
--- Laws of natural numbers that more than one crate needs.
+-- Laws of natural numbers and of tests that more than one crate needs.
 use mathlib.Core.Path.{_≡_, refl, sym}
-use mathlib.Core.Bool.{Bool, true, false}
+use mathlib.Core.Bool.{Bool, true, false, not, cond}
 use mathlib.Core.Logic.{_⊎_, inl, inr}
 use Prim.Native.Nat.{ℕ, _≤_, _<_}
-use lib.Dec.{ltb}
+use lib.Dec.{T, ltb}
 use borrow.Author.Tests.{ltb-true, ltb-false, lt-ltb, le-ltb}
 
 -- ---- orders
@@ -22,3 +22,10 @@ ltb-same a b m n f g = decided (ltb a b) refl
     decided : (t : Bool) → ltb a b ≡ t → t ≡ ltb m n
     decided true e = sym (lt-ltb m n (f (ltb-true a b e)))
     decided false e = sym (le-ltb m n (g (ltb-false a b e)))
+
+-- ---- choices
+
+-- what holds of both arms holds of the choice
+pub cond-elim : {A : Type 0} (c : Bool) (x y : A) (P : A → Type 0) → (T c → P x) → (T (not c) → P y) → P (cond c x y)
+cond-elim true x y P f g = f tt
+cond-elim false x y P f g = g tt
