@@ -1,0 +1,155 @@
+-- The constants of document 01, for definitions; src/lib.rt has them for code.
+use Prim.Native.Nat.{ℕ}
+
+-- ---- sizes (document 01, "Constants")
+
+abbrev pub lpcOrder : ℕ
+lpcOrder = 10
+
+abbrev pub subframesPerFrame : ℕ
+subframesPerFrame = 4
+
+abbrev pub subframeSize : ℕ
+subframeSize = 60
+
+abbrev pub frameSize : ℕ
+frameSize = 240
+
+abbrev pub excHist : ℕ
+excHist = 146
+
+abbrev pub classifierHistory : ℕ
+classifierHistory = 120
+
+-- ---- lags (document 01, "Constants"; from G.723.1)
+
+abbrev pub pitchMin : ℕ
+pitchMin = 18
+
+abbrev pub pitchMax : ℕ
+pitchMax = 142
+
+-- ---- LSPs (document 01, "LSPs"; the Rust's lsp_extrapolate, lsp_interpolate)
+
+abbrev pub stabilityPasses : ℕ
+stabilityPasses = 10
+
+abbrev pub lspMinimum : ℕ
+lspMinimum = 256
+
+abbrev pub lspMinimumErased : ℕ
+lspMinimumErased = 512
+
+-- 23/32, in 32768ths
+abbrev pub lspPredictorErased : ℕ
+lspPredictorErased = 23552
+
+-- a quarter, a half and three quarters, in 32768ths
+abbrev pub quarter : ℕ
+quarter = 8192
+
+abbrev pub half : ℕ
+half = 16384
+
+abbrev pub threeQuarters : ℕ
+threeQuarters = 24576
+
+-- ---- excitation (document 01, "Adaptive part", "Pulses")
+
+abbrev pub acbTaps : ℕ
+acbTaps = 5
+
+-- taps are 16384ths
+abbrev pub tapOne : ℕ
+tapOne = 16384
+
+abbrev pub gridSlots : ℕ
+gridSlots = 30
+
+-- the first code without slots, for six and for five pulses
+abbrev pub positionLimitSix : ℕ
+positionLimitSix = 593775
+
+abbrev pub positionLimitFive : ℕ
+positionLimitFive = 142506
+
+-- a train needs a base lag below this
+abbrev pub trainLagLimit : ℕ
+trainLagLimit = 58
+
+-- ---- postfilters (document 01, "Pitch postfilter", "Formant, tilt, gain"; the Rust's ltp_gamma_q15, formant_agc_subframe)
+
+-- the pitch postfilter's weight by kind, in 32768ths
+abbrev pub ltpGammaHigh : ℕ
+ltpGammaHigh = 6144
+
+abbrev pub ltpGammaLow : ℕ
+ltpGammaLow = 8192
+
+-- gains are 4096ths
+abbrev pub agcOne : ℕ
+agcOne = 4096
+
+abbrev pub agcMax : ℕ
+agcMax = 1048576
+
+-- ---- erasure (document 01, "Erasure"; the Rust's decode_erased)
+
+-- 3/4, in 32768ths
+abbrev pub erasureAttenuation : ℕ
+erasureAttenuation = 24576
+
+abbrev pub erasureMuteAfter : ℕ
+erasureMuteAfter = 3
+
+abbrev pub noiseStart : ℕ
+noiseStart = 3735928559
+
+abbrev pub noiseStep : ℕ
+noiseStep = 2654435769
+
+abbrev pub noiseFactor : ℕ
+noiseFactor = 1664525
+
+abbrev pub noiseSummand : ℕ
+noiseSummand = 1013904223
+
+-- ---- bounds of the state (document 01, number 2)
+
+abbrev pub lastLagMin : ℕ
+lastLagMin = 17
+
+abbrev pub lastLagMax : ℕ
+lastLagMax = 147
+
+abbrev pub lastBaseLagMax : ℕ
+lastBaseLagMax = 145
+
+-- the largest gain, doubled
+abbrev pub unvoicedGainMax : ℕ
+unvoicedGainMax = 13246
+
+-- ---- the record (document 01, "The record", numbers 5 to 9)
+
+abbrev pub recordHighBytes : ℕ
+recordHighBytes = 89
+
+abbrev pub recordLowBytes : ℕ
+recordLowBytes = 549
+
+abbrev pub lagCodeMax : ℕ
+lagCodeMax = 127
+
+abbrev pub stepCodeMax : ℕ
+stepCodeMax = 3
+
+abbrev pub gainIndexMax : ℕ
+gainIndexMax = 23
+
+abbrev pub flagsMax : ℕ
+flagsMax = 3
+
+-- ---- program `frames`
+
+abbrev pub lineMax : ℕ
+lineMax = 1098

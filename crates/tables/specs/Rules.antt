@@ -1,0 +1,78 @@
+-- What holds of each entry of a table: one computed test for each table.
+use mathlib.Core.Path.{_≡_, refl, sym, ap, _∙_}
+use mathlib.Core.Bool.{Bool, cond, _&&_}
+use mathlib.Core.List.{List, [], _∷_}
+use Prim.Native.Nat.{ℕ, zero, suc, _+_, _-_, _*_, _/_, _%_, _≤_, _<_}
+use native.Mathlib.Omega.{arith}
+use borrow.Author.Tests.{lt-ltb}
+use lib.Dec.{T, leb, ltb, eqb, leb→le, ltb→lt, eqb→eq}
+use lib.IntN.{ℤ, pos, natAbs}
+use lib.ListN.{getD}
+use Rattle.integers.specs.Base.{every, entry, Within}
+use Rattle.integers.specs.Table.{every-at, every-any, and-left, and-right}
+use Rattle.tables.specs.Tables.{cosines, gains, weights, weight}
+
+-- ---- cosines: none is above 16384 in size
+
+small : ℤ → Bool
+small x = leb (natAbs x) 16384
+
+pub cosine-within : (i : ℕ) → Within 16384 (entry cosines i)
+unfolding cosines every small
+cosine-within i = record { within = leb→le (natAbs (entry cosines i)) 16384 (every-any small cosines tt (pos 0) tt i) }
+
+-- ---- gains: none is 0, no two are equal, the largest is 6623
+
+-- the place of the first entry that is x
+unfoldable pub place : List ℕ → ℕ → ℕ
+place [] x = 0
+place (y ∷ ys) x = cond (eqb x y) 0 (suc (place ys x))
+
+fair : ℕ → ℕ → Bool
+fair k x = ltb 0 x && (leb x 6623 && eqb (place gains x) k)
+
+pub record Gain (k x : ℕ) : Type 0 where
+  pub positive : 0 < x
+  pub at-most : x ≤ 6623
+  pub placed : place gains x ≡ k
+
+pub gain-rule : (k : ℕ) → k < 24 → Gain k (getD gains k 0)
+unfolding gains every fair place
+gain-rule k h =
+    let x = getD gains k 0 in
+    let t = every-at fair gains tt k h 0 in
+    let u = and-right (ltb 0 x) (leb x 6623 && eqb (place gains x) k) t in
+    record {
+      positive = ltb→lt 0 x (and-left (ltb 0 x) (leb x 6623 && eqb (place gains x) k) t);
+      at-most = leb→le x 6623 (and-left (leb x 6623) (eqb (place gains x) k) u);
+      placed = eqb→eq (place gains x) k (and-right (leb x 6623) (eqb (place gains x) k) u);
+    }
+
+pub gain-distinct : (i j : ℕ) → i < 24 → j < 24 → getD gains i 0 ≡ getD gains j 0 → i ≡ j
+gain-distinct i j hi hj e = sym (gain-rule i hi .placed) ∙ ap (place gains) e ∙ gain-rule j hj .placed
+
+pub gain-largest : getD gains 23 0 ≡ 6623
+unfolding gains
+gain-largest = refl
+
+-- ---- weights: row m, column i is the number of ways to choose 5 - m of 29 - i (document 01, "Pulses")
+
+-- the number of ways to choose k of n
+unfoldable pub choose : ℕ → ℕ → ℕ
+choose n zero = 1
+choose zero (suc k) = 0
+choose (suc n) (suc k) = choose n k + choose n (suc k)
+
+binomial : ℕ → ℕ → Bool
+binomial k x = eqb x (choose (29 - k % 30) (5 - k / 30))
+
+binomial-at : (k : ℕ) → k < 180 → getD weights k 0 ≡ choose (29 - k % 30) (5 - k / 30)
+unfolding weights every binomial choose
+binomial-at k h = eqb→eq (getD weights k 0) (choose (29 - k % 30) (5 - k / 30)) (every-at binomial weights tt k h 0)
+
+pub weight-rule : (m i : ℕ) → m < 6 → i < 30 → weight m i ≡ choose (29 - i) (5 - m)
+weight-rule m i hm hi =
+    let a : (m * 30 + i) % 30 ≡ i = omega arith in
+    let b : (m * 30 + i) / 30 ≡ m = omega arith in
+    let e : getD weights (m * 30 + i) 0 ≡ choose (29 - (m * 30 + i) % 30) (5 - (m * 30 + i) / 30) = binomial-at (m * 30 + i) (omega arith) in
+    rw (lt-ltb m 6 hm, lt-ltb i 30 hi) (rw (a, b) at e)
