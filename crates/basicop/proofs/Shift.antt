@@ -5,7 +5,7 @@ use Prim.Native.Nat.{ℕ, zero, suc, _+_, _*_, _/_, _%_, _^_, _≤_, _<_}
 use native.Mathlib.Nat.{div-eq-of-lt, mod-eq-of-lt, le-trans}
 use native.Mathlib.Omega.{arith}
 use borrow.Author.Tests.{ltb-true, ltb-false}
-use lib.Dec.{T}
+use lib.Dec.{T, ltb}
 use lib.Pow.{pow-mono}
 use lib.IntN.{ℤ, pos, negsuc, natAbs, negℤ, _-ℤ_, _*ℤ_}
 use lib.Signed.{mag, ltZ, nonNeg, mag-shr}
@@ -16,8 +16,11 @@ use Rattle.basicop.specs.Operators.{scaled}
 
 -- ---- signs
 
+none-below-zero : {X : Type 0} (n : ℕ) → ltb n 0 ≡ true → X
+none-below-zero n h = absurd (let k : n < 0 = ltb-true n 0 h in let z : ⊥ = omega arith in z)
+
 pub neg-nonneg : (z : ℤ) → ltZ z (pos 0) ≡ true → T (nonNeg (negℤ z))
-neg-nonneg (pos n) h = absurd (let k : n < 0 = ltb-true n 0 h in let z : ⊥ = omega arith in z)
+neg-nonneg (pos n) h = none-below-zero n h
 neg-nonneg (negsuc n) h = tt
 
 pub nonneg : (z : ℤ) → ltZ z (pos 0) ≡ false → T (nonNeg z)
@@ -38,7 +41,7 @@ power n h =
 -- ---- a quotient by more than the number's size
 
 pub floor-negative : (a : ℤ) (m : ℕ) → mag a < m → ltZ a (pos 0) ≡ true → negsuc 0 ≡ floorDiv a m
-floor-negative (pos n) m k h = absurd (let j : n < 0 = ltb-true n 0 h in let z : ⊥ = omega arith in z)
+floor-negative (pos n) m k h = none-below-zero n h
 floor-negative (negsuc n) m k h = ap negsuc (sym (div-eq-of-lt k))
 
 pub floor-nonneg : (a : ℤ) (m : ℕ) → mag a < m → ltZ a (pos 0) ≡ false → pos 0 ≡ floorDiv a m
@@ -53,7 +56,7 @@ module _ (M m : ℕ) (large : M < m) where
 
   pub times-positive : (a : ℤ) → ltZ (pos 0) a ≡ true → pos M ≡ saturated M (a *ℤ pos m)
   unfolding saturated
-  times-positive (pos zero) h = absurd (let j : 0 < 0 = ltb-true 0 0 h in let z : ⊥ = omega arith in z)
+  times-positive (pos zero) h = none-below-zero 0 h
   times-positive (pos (suc n)) h = ap pos (omega (arith, at-least n))
   times-positive (negsuc n) h = absurd (subst T (sym h) tt)
 
@@ -63,7 +66,7 @@ module _ (M m : ℕ) (large : M < m) where
   lowest (suc k) h = ap negsuc (omega arith)
 
   pub times-negative : (a : ℤ) → ltZ a (pos 0) ≡ true → negsuc M ≡ saturated M (a *ℤ pos m)
-  times-negative (pos n) h = absurd (let j : n < 0 = ltb-true n 0 h in let z : ⊥ = omega arith in z)
+  times-negative (pos n) h = none-below-zero n h
   times-negative (negsuc n) h = lowest (suc n * m) (omega (arith, at-least n))
 
   pub times-zero : (a : ℤ) → ltZ (pos 0) a ≡ false → ltZ a (pos 0) ≡ false → pos 0 ≡ saturated M (a *ℤ pos m)
@@ -87,7 +90,7 @@ module _ (M : ℕ) (a : ℤ) (fits : mag a ≤ M) where
   floor-kept m = sym (saturated-id M (floorDiv a m) (le-trans (mag-shr a m) fits))
 
   pub left-down : (n : ℤ) → ltZ n (pos 0) ≡ true → floorDiv a (2 ^ natAbs n) ≡ saturated M (scaled a n)
-  left-down (pos n) h = absurd (let j : n < 0 = ltb-true n 0 h in let z : ⊥ = omega arith in z)
+  left-down (pos n) h = none-below-zero n h
   left-down (negsuc n) h = floor-kept (2 ^ suc n)
 
   pub left-up : (n : ℤ) → ltZ n (pos 0) ≡ false → saturated M (a *ℤ pos (2 ^ natAbs n)) ≡ saturated M (scaled a n)
@@ -95,7 +98,7 @@ module _ (M : ℕ) (a : ℤ) (fits : mag a ≤ M) where
   left-up (negsuc n) h = absurd (subst T h tt)
 
   pub right-up : (n : ℤ) → ltZ n (pos 0) ≡ true → saturated M (a *ℤ pos (2 ^ natAbs n)) ≡ saturated M (scaled a (negℤ n))
-  right-up (pos n) h = absurd (let j : n < 0 = ltb-true n 0 h in let z : ⊥ = omega arith in z)
+  right-up (pos n) h = none-below-zero n h
   right-up (negsuc n) h = refl
 
   pub right-down : (n : ℤ) → ltZ n (pos 0) ≡ false → floorDiv a (2 ^ natAbs n) ≡ saturated M (scaled a (negℤ n))

@@ -62,9 +62,9 @@ fn up(a: i16, n: u32) -> i16
     if n < 15 {
         saturate(a as i32 * (1u32 << n) as i32)
     } else if a > 0 {
-        32767
+        i16::MAX
     } else if a < 0 {
-        -32768
+        i16::MIN
     } else {
         0
     }
@@ -73,7 +73,7 @@ fn up(a: i16, n: u32) -> i16
 fn down(a: i16, n: u32) -> i16
     ensures { λ r. ⌜ r ≡ floorDiv a (2 ^ n) ⌝ }
 {
-    if n < 15 {
+    if n < 16 {
         a >> n
     } else if a < 0 {
         -1

@@ -24,8 +24,8 @@ returns : tie.Need-returns
 returns c = search signed
 
 -- the number is smaller than the power
-small : (s : tie.Start) → 15 ≤ s .args .n → mag (s .args .a) < 2 ^ s .args .n
-small s h = lt-of-lt-of-le (s .fits .a .sfits) (pow-mono h)
+small : (s : tie.Start) → 16 ≤ s .args .n → mag (s .args .a) < 2 ^ s .args .n
+small s h = lt-of-lt-of-le (s .fits .a .sfits) (pow-mono {i = 15} {j = s .args .n} (omega arith))
 
 sign : (s : tie.Start) (b : Bool) → ltZ (toZ w16 (ofZ w16 (s .args .a))) (pos 0) ≡ b → ltZ (s .args .a) (pos 0) ≡ b
 sign s b h = subst (λ (z : ℤ). ltZ z (pos 0) ≡ b) (toZ-ofZ (s .fits .a)) h

@@ -29,7 +29,7 @@ loop-less c = omega arith
 loop-again : tie.Need-loop-again Inv-loop μ-loop
 loop-again c =
     let l = c .before .before in
-    between-upper (l .before .args .v) (l .loop .r) (l .loop .s) (l .loop .inv) (c .before .loop-test .taken) (c .if1 .taken)
+    between-upper (l .before .args .v) (l .loop .r) (l .loop .s) (l .loop .inv) (omega arith) (omega arith)
 
 loop-less-2 : tie.Need-loop-less-2 Inv-loop μ-loop
 loop-less-2 c = omega arith
@@ -37,7 +37,7 @@ loop-less-2 c = omega arith
 loop-again-2 : tie.Need-loop-again-2 Inv-loop μ-loop
 loop-again-2 c =
     let l = c .before .before in
-    between-lower (l .before .args .v) (l .loop .r) (l .loop .s) (l .loop .inv) (c .before .loop-test .taken) (c .if1 .left)
+    between-lower (l .before .args .v) (l .loop .r) (l .loop .s) (l .loop .inv) (omega arith) (omega arith)
 
 cast-result : tie.Need-cast-result Inv-loop μ-loop
 cast-result c = omega arith

@@ -42,10 +42,10 @@ shl-saturate : tie.Need-shl-saturate
 shl-saturate c = omega arith
 
 cast-saturate-2 : tie.Need-cast-saturate-2
-cast-saturate-2 c = fits (c .before) (c .if1 .taken)
+cast-saturate-2 c = fits (c .before) (omega arith)
 
 mul-saturate : tie.Need-mul-saturate
-mul-saturate c = let s = c .before in need-mul (number s (c .if1 .taken)) (factor s (c .if1 .taken)) (product s (c .if1 .taken))
+mul-saturate c = let s = c .before in need-mul (number s (omega arith)) (factor s (omega arith)) (product s (omega arith))
 
 saturate-requires : tie.Need-saturate-requires
 saturate-requires c κs = tt
@@ -53,7 +53,7 @@ saturate-requires c κs = tt
 returns : tie.Need-returns
 returns c =
     let s = c .before .before in
-    let h = c .before .if1 .taken in
+    let h : s .args .n < 15 = omega arith in
     back w16 (c .saturate .ok) (c .saturate .ensures ∙ ap (λ (z : ℤ). word16 z) (is-mul (number s h) (factor s h) (product s h) .is))
 
 -- from the fifteenth power on
@@ -70,19 +70,19 @@ module _ (s : tie.Start) (h : 15 ≤ s .args .n) where
 returns-2 : tie.Need-returns-2
 returns-2 c =
     let s = c .before .before in
-    let h = c .before .if1 .left in
+    let h : 15 ≤ s .args .n = omega arith in
     times-positive 32767 (2 ^ s .args .n) (large s h) (s .args .a) (above s h true (c .if2 .taken))
 
 returns-3 : tie.Need-returns-3
 returns-3 c =
     let s = c .before .before .before in
-    let h = c .before .before .if1 .left in
+    let h : 15 ≤ s .args .n = omega arith in
     times-negative 32767 (2 ^ s .args .n) (large s h) (s .args .a) (below s h true (c .if3 .taken))
 
 returns-4 : tie.Need-returns-4
 returns-4 c =
     let s = c .before .before .before in
-    let h = c .before .before .if1 .left in
+    let h : 15 ≤ s .args .n = omega arith in
     times-zero 32767 (2 ^ s .args .n) (large s h) (s .args .a) (above s h false (c .before .if2 .left)) (below s h false (c .if3 .left))
 
 pub up-spec : {M : Type 1} → statement M
