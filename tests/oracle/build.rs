@@ -29,8 +29,8 @@ fn main() {
 /// The directory with the five files: G7231_SRC or its `src`, by default the shared documents beside the repository.
 fn source_directory(manifest: &Path) -> PathBuf {
     let given = match env::var_os("G7231_SRC") {
-        Some(path) => manifest.join(path),
-        None => manifest.join("../../../shared/docs/src"),
+        Some(path) if !path.is_empty() => manifest.join(path),
+        _ => manifest.join("../../../shared/docs/src"),
     };
     let below = given.join("src");
     let found = if below.join("qdec.rs").is_file() {

@@ -7,6 +7,7 @@ use crate::qdec::driver::frame::{Fixed, Frame};
 use crate::qdec::driver::state::in_bounds;
 
 /// A record without fault.
+#[derive(Debug, PartialEq)]
 pub enum Record {
     Erased,
     Received(Box<Frame>),

@@ -7,6 +7,7 @@
 use super::super::*;
 
 /// What `decode_params` has once its indices are looked up.
+#[derive(Debug, PartialEq)]
 pub struct Frame {
     pub rate: PackedRate,
     pub candidate: [i16; LPC_ORDER],
@@ -17,7 +18,7 @@ pub struct Frame {
 }
 
 /// The fixed vector of a subframe: from pulses at the high rate, given at the low rate.
-#[derive(Clone, Copy)]
+#[derive(Clone, Copy, Debug, PartialEq)]
 pub enum Fixed {
     Pulses {
         pos: u32,

@@ -205,7 +205,7 @@ impl Counts {
             format!("{} ({on} with postfilter, {off} without)", on + off)
         };
         format!(
-            "{} High {}, Low {}, erased {}; runs {}, {} from given states; trains {}, \
+            "{}: High {}, Low {}, erased {}; runs {}, {} from given states; trains {}, \
              codes without slots {}, previous LSPs {}, erased voiced {}, muted {}",
             received(self) + self.erased.iter().sum::<u64>(),
             kind(self.high),
