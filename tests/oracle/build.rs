@@ -11,6 +11,7 @@ const FILES: [&str; 5] = [
     "spec_tables.rs",
 ];
 
+/// Writes qdec.rs with its child and the list of modules into the build directory.
 fn main() {
     let manifest = PathBuf::from(env::var_os("CARGO_MANIFEST_DIR").unwrap());
     let out = PathBuf::from(env::var_os("OUT_DIR").unwrap());
@@ -26,7 +27,8 @@ fn main() {
     fs::write(out.join("modules.rs"), modules(&source, &qdec)).unwrap();
 }
 
-/// The directory with the five files: G7231_SRC or its `src`, by default the shared documents beside the repository.
+/// The directory with the five files: G7231_SRC or its `src`; without it, the shared documents
+/// beside the repository.
 fn source_directory(manifest: &Path) -> PathBuf {
     let given = match env::var_os("G7231_SRC") {
         Some(path) if !path.is_empty() => manifest.join(path),
@@ -41,7 +43,8 @@ fn source_directory(manifest: &Path) -> PathBuf {
     for file in FILES {
         if !found.join(file).is_file() {
             panic!(
-                "{file} is not in {}: set G7231_SRC to the directory that holds the five Rust files, or to its parent",
+                "{file} is not in {}: set G7231_SRC to the directory that holds the five Rust \
+                 files, or to its parent",
                 found.display()
             );
         }
@@ -49,7 +52,8 @@ fn source_directory(manifest: &Path) -> PathBuf {
     found.canonicalize().unwrap()
 }
 
-/// Copies a file byte for byte and adds one line: a child module may call its parent's private functions.
+/// Copies a file byte for byte and adds one line: a child module may call its parent's private
+/// functions.
 fn write_with_child(from: &Path, to: &Path, child: &Path) {
     let mut text = fs::read(from).unwrap();
     if text.last() != Some(&b'\n') {

@@ -39,6 +39,7 @@ impl Numbers {
 }
 
 impl From<Vec<i128>> for Numbers {
+    /// The numbers of a list.
     fn from(list: Vec<i128>) -> Self {
         Self(list.into_iter())
     }

@@ -1,5 +1,5 @@
-//! Document 01's record and its refusals, numbers 2 to 10. Number 1 cannot arise: the samples are an
-//! array of 240.
+//! Document 01's record and its refusals, numbers 2 to 10. Number 1 cannot arise: the samples are
+//! an array of 240.
 
 use crate::linepack::PackedRate;
 use crate::qdec::QSynthesis;
@@ -20,7 +20,7 @@ const BLOCKS: usize = 25;
 /// Pulses of each subframe at the high rate.
 const PULSES: [u32; 4] = [6, 5, 6, 5];
 
-/// One record to 240 samples, or the number of the first refusal that applies; then the state stays.
+/// One record's samples, or the number of the first refusal that applies; then the state stays.
 pub fn decode(state: &mut QSynthesis, bytes: &[u8]) -> Result<[i16; 240], u8> {
     refuse(2, !in_bounds(state))?;
     match read(bytes)? {

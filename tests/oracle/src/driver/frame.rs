@@ -1,8 +1,8 @@
 //! One received frame from the candidate LSPs on.
 //!
-//! `decode_params` looks up indices first; document 01 takes it from `lsp_check_or_previous` on. Its
-//! lines from there are repeated here, in their order and with their names; everything that they call
-//! is the unchanged function.
+//! `decode_params` looks up indices first; document 01 takes it from `lsp_check_or_previous` on.
+//! Its lines from there are repeated here, in their order and with their names; everything that
+//! they call is the unchanged function.
 
 use super::super::*;
 

@@ -1,4 +1,30 @@
 //! Questions to single functions: a name and numbers in a line, numbers in the answer.
+//!
+//! The operators take their parameters in the Rust's order. The others, with the count of a list in
+//! brackets and STATE for the 315 numbers of state.rs:
+//!
+//! ```text
+//! wide_product a b                        hi lo
+//! wide_times hi lo b                      hi lo, modulo 2^128
+//! wide_shift hi lo n                      hi lo, shifted left
+//! wide_less hi lo hi lo                   0 or 1
+//! wide_divide hi lo hi lo                 hi lo, floored; 0 0 for a division by 0
+//! lsp_stability min p(10)                 passed p(10)
+//! lsp_check_or_previous min cand(10) prev(10)      p(10)
+//! lsp_extrapolate prev(10)                p(10)
+//! lsp_interpolate k prev(10) cur(10)      p(10)
+//! lsp_to_lpc_q13 p(10)                    a(10)
+//! frame_lpc_q13 prev(10) cur(10)          a(40)
+//! fcbk_unpk_positions code n              slots, or `none`
+//! mpmlq_fixed_vector code signs grid n gain_index train lag      v(60)
+//! acb_contribution lag taps(5) hist(146)  u(60)
+//! synthesis_subframe a(10) x(60) mem(10)  out(60) mem(10)
+//! pitch_postfilter kind start lag hist(146) frame(240)           out(60); kind 1 High, 2 Low
+//! formant_agc_subframe a(10) sy(60) num(10) den(10) tilt_prev tilt_k1 gain
+//!                                         out(60) num(10) den(10) tilt_prev tilt_k1 gain
+//! classify last_lag2 pcm(120)             voiced lag
+//! decode_erased STATE                     samples(240) STATE
+//! ```
 
 use std::panic::{AssertUnwindSafe, catch_unwind};
 

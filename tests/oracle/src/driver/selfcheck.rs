@@ -18,6 +18,7 @@ struct Counts {
     erased: [u64; 2],
     trains: u64,
     codes_without_slots: u64,
+    low_past_16_bits: u64,
     previous_lsps: u64,
     voiced: u64,
     muted: u64,
@@ -94,6 +95,9 @@ fn starting_state(random: &mut Random, counts: &mut Counts) -> Vec<i128> {
 
 /// A frame of either rate, its words random or at their ends, positions also past the limit.
 fn random_params(random: &mut Random) -> SpecFrameParams {
+    if random.below(64) == 0 {
+        return loudest_low();
+    }
     let rate = [PackedRate::High, PackedRate::Low][random.below(2) as usize];
     let mut p = SpecFrameParams::zeroed(rate);
     p.lsp_index = random.mostly_below(1 << 24, &[0, 0xFF_FFFF]);
@@ -118,6 +122,18 @@ fn random_params(random: &mut Random) -> SpecFrameParams {
         };
     }
     p
+}
+
+/// A Low frame whose vector leaves 16 bits: pulses at 0, 18, 36 and 54, all positive, with the
+/// largest gain and lag 18, so that each adds to the next almost whole.
+fn loudest_low() -> SpecFrameParams {
+    SpecFrameParams {
+        acl: [0, 1, 0, 1],
+        gain: [97 * crate::spec_tables::GAIN_TABLE_SIZE + 23; SUBFRAMES_PER_FRAME],
+        pos: [2 << 3 | 4 << 6 | 6 << 9; SUBFRAMES_PER_FRAME],
+        psig: [15; SUBFRAMES_PER_FRAME],
+        ..SpecFrameParams::zeroed(PackedRate::Low)
+    }
 }
 
 /// The same frame for the driver, its indices looked up by the Rust's own functions.
@@ -190,10 +206,16 @@ impl Counts {
         let mut candidate = frame.candidate;
         self.previous_lsps += u64::from(!lsp_stability(&mut candidate, LSP_DELTA_MIN_Q15));
         for (s, fixed) in frame.fixed.iter().enumerate() {
-            if let Fixed::Pulses { pos, train, .. } = fixed {
-                self.trains += u64::from(*train);
-                let limit = crate::spec_tables::MPMLQ_MAX_POSITION[s];
-                self.codes_without_slots += u64::from(*pos >= limit);
+            match fixed {
+                Fixed::Pulses { pos, train, .. } => {
+                    self.trains += u64::from(*train);
+                    let limit = crate::spec_tables::MPMLQ_MAX_POSITION[s];
+                    self.codes_without_slots += u64::from(*pos >= limit);
+                }
+                Fixed::Vector(v) => {
+                    let fits = v.iter().all(|x| i16::try_from(*x).is_ok());
+                    self.low_past_16_bits += u64::from(!fits);
+                }
             }
         }
     }
@@ -206,7 +228,8 @@ impl Counts {
         };
         format!(
             "{}: High {}, Low {}, erased {}; runs {}, {} from given states; trains {}, \
-             codes without slots {}, previous LSPs {}, erased voiced {}, muted {}",
+             codes without slots {}, Low vectors past 16 bits {}, previous LSPs {}, \
+             erased voiced {}, muted {}",
             received(self) + self.erased.iter().sum::<u64>(),
             kind(self.high),
             kind(self.low),
@@ -215,6 +238,7 @@ impl Counts {
             self.given_states,
             self.trains,
             self.codes_without_slots,
+            self.low_past_16_bits,
             self.previous_lsps,
             self.voiced,
             self.muted

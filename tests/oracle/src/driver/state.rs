@@ -13,7 +13,7 @@ pub fn fresh(postfilter: bool) -> QSynthesis {
     state
 }
 
-/// Every field in the fixed order. The patterns name all fields, so that a new one does not compile.
+/// Every field in the fixed order. The pattern names each, so that a new one does not compile.
 pub fn to_numbers(state: &QSynthesis) -> Vec<i128> {
     let QSynthesis {
         prev_lsp,

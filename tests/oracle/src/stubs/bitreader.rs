@@ -1,6 +1,7 @@
-//! Stands in for the repository's bit reader. Assumed from linepack.rs: its module comment reads the octet maps as a
-//! stream with the least significant bit of each octet first, and `FrameWriter` mirrors the reader's order. A read past
-//! the end is assumed to be an error. Only `unpack_frame` uses it, and the oracle calls no function that does.
+//! Stands in for the repository's bit reader. Assumed from linepack.rs: its module comment reads
+//! the octet maps as a stream with the least significant bit of each octet first, and
+//! `FrameWriter` mirrors the reader's order. A read past the end is assumed to be an error. Only
+//! `unpack_frame` uses it, and the oracle calls no function that does.
 
 use crate::stubs::core::{Error, Result};
 
@@ -10,6 +11,7 @@ pub struct BitReader<'a> {
 }
 
 impl<'a> BitReader<'a> {
+    /// Starts at the first bit.
     pub fn new(data: &'a [u8]) -> Self {
         Self { data, place: 0 }
     }

@@ -11,7 +11,8 @@ pub const LSP_STABILITY_MAX_ITERATIONS: usize = 10;
 pub const ERASURE_MUTE_AFTER_FRAMES: u32 = 3;
 pub const ERASURE_CLASSIFIER_HISTORY_LEN: usize = 120;
 
-// linepack.rs, module comment: 192 bits at the high rate, 160 at the low. No arithmetic of the decoder reads them.
+// linepack.rs, module comment: 192 bits at the high rate, 160 at the low. The decoder's arithmetic
+// does not read them.
 pub const HIGH_RATE_BYTES: usize = 24;
 pub const LOW_RATE_BYTES: usize = 20;
 
