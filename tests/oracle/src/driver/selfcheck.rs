@@ -76,11 +76,13 @@ fn starting_state(random: &mut Random, counts: &mut Counts) -> Vec<i128> {
     }
     counts.given_states += 1;
     let loudness = [0, 9, 900, 32_767][random.below(4) as usize];
-    let mut lsps: Vec<i64> = (0..LPC_ORDER).map(|_| random.within(0, 32_767)).collect();
+    let lowest = [0, -32_768][random.below(2) as usize];
+    let mut list: Vec<i64> = (0..LPC_ORDER)
+        .map(|_| random.within(lowest, 32_767))
+        .collect();
     if random.below(4) > 0 {
-        lsps.sort();
+        list.sort();
     }
-    let mut list = lsps;
     list.extend((0..EXC_HIST + 3 * LPC_ORDER).map(|_| random.within(-loudness - 1, loudness)));
     list.extend((0..2).map(|_| random.within(-32_768, 32_767)));
     list.push(random.within(0, 1_048_576));
