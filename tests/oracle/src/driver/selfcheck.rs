@@ -1,0 +1,249 @@
+//! Shows that the driver's frame is `decode_params`: samples and states over random runs of frames.
+
+use super::super::*;
+use super::frame::{Fixed, Frame, lags};
+use super::state;
+use crate::numbers::Numbers;
+use crate::random::Random;
+
+const SEED: u64 = 7231;
+
+/// What was compared. Pairs count frames with the postfilter off and on.
+#[derive(Default)]
+struct Counts {
+    runs: u64,
+    given_states: u64,
+    high: [u64; 2],
+    low: [u64; 2],
+    erased: [u64; 2],
+    trains: u64,
+    codes_without_slots: u64,
+    low_past_16_bits: u64,
+    previous_lsps: u64,
+    voiced: u64,
+    muted: u64,
+}
+
+/// Compares `count` received frames and the erased ones between them; the counts, or the first
+/// difference.
+pub fn run(count: u64) -> Result<String, String> {
+    let mut random = Random(SEED);
+    let mut counts = Counts::default();
+    while received(&counts) < count {
+        let left = count - received(&counts);
+        one_run(&mut random, &mut counts, left)?;
+    }
+    Ok(counts.text())
+}
+
+/// Received frames so far.
+fn received(counts: &Counts) -> u64 {
+    counts.high.iter().chain(&counts.low).sum()
+}
+
+/// One run from a fresh or a given state: the Rust on one side, the driver on the other.
+fn one_run(random: &mut Random, counts: &mut Counts, most: u64) -> Result<(), String> {
+    let numbers = starting_state(random, counts);
+    let build = || state::from_numbers(&mut Numbers::from(numbers.clone()));
+    let mut rust = build().expect("the state is in bounds");
+    let mut driver = build().expect("the state is in bounds");
+    counts.runs += 1;
+    let mut erased = false;
+    for _ in 0..most.min(1 + u64::from(random.below(40))) {
+        loop {
+            erased = random.below(8) < if erased { 5 } else { 1 };
+            if !erased {
+                break;
+            }
+            counts.erased(&rust);
+            let samples = [rust.decode_erased(), driver.decode_erased()];
+            same("erased", counts, samples, [&rust, &driver])?;
+        }
+        let params = random_params(random);
+        let frame = looked_up(&params, &driver.prev_lsp);
+        counts.received(&frame, rust.postfilter);
+        let samples = [rust.decode_params(&params), driver.decode_frame(&frame)];
+        same("received", counts, samples, [&rust, &driver])?;
+    }
+    Ok(())
+}
+
+/// A fresh state, or one with every field random within the bounds of number 2.
+fn starting_state(random: &mut Random, counts: &mut Counts) -> Vec<i128> {
+    let postfilter = random.below(2) == 1;
+    if random.below(2) == 0 {
+        return state::to_numbers(&state::fresh(postfilter));
+    }
+    counts.given_states += 1;
+    let loudness = [0, 9, 900, 32_767][random.below(4) as usize];
+    let lowest = [0, -32_768][random.below(2) as usize];
+    let mut list: Vec<i64> = (0..LPC_ORDER)
+        .map(|_| random.within(lowest, 32_767))
+        .collect();
+    if random.below(4) > 0 {
+        list.sort();
+    }
+    list.extend((0..EXC_HIST + 3 * LPC_ORDER).map(|_| random.within(-loudness - 1, loudness)));
+    list.extend((0..2).map(|_| random.within(-32_768, 32_767)));
+    list.push(random.within(0, 1_048_576));
+    list.extend([random.within(17, 147), random.within(18, 145)]);
+    list.extend([random.within(0, 32_767), random.within(0, 13_246)]);
+    let tail = crate::tables::ERASURE_CLASSIFIER_HISTORY_LEN;
+    list.extend((0..tail).map(|_| random.within(-loudness - 1, loudness)));
+    let run = random.mostly_below(6, &[0, u32::MAX - 1, u32::MAX]);
+    list.extend([i64::from(run), i64::from(postfilter)]);
+    list.into_iter().map(i128::from).collect()
+}
+
+/// A frame of either rate, its words random or at their ends, positions also past the limit.
+fn random_params(random: &mut Random) -> SpecFrameParams {
+    if random.below(64) == 0 {
+        return loudest_low();
+    }
+    let rate = [PackedRate::High, PackedRate::Low][random.below(2) as usize];
+    let mut p = SpecFrameParams::zeroed(rate);
+    p.lsp_index = random.mostly_below(1 << 24, &[0, 0xFF_FFFF]);
+    for s in 0..SUBFRAMES_PER_FRAME {
+        p.acl[s] = match s % 2 {
+            0 => random.mostly_below(128, &[0, 39, 40, 41, 124, 125, 126, 127]),
+            _ => random.below(4),
+        };
+        p.gain[s] = random.mostly_below(4096, &[0, 23, 2039, 2047, 2048, 4079, 4080, 4095]);
+        p.grid[s] = random.below(2) as u8;
+        (p.pos[s], p.psig[s]) = match rate {
+            PackedRate::High => {
+                let limit = crate::spec_tables::MPMLQ_MAX_POSITION[s];
+                let ends = [0, limit - 1, limit, limit + 1, 0xFF_FFFF];
+                let pos = random.mostly_below(limit, &ends);
+                (pos, random.mostly_below(64, &[0, 0x1F, 0x20, 0x3F]))
+            }
+            PackedRate::Low => (
+                random.mostly_below(4096, &[0, 4095]),
+                random.mostly_below(16, &[0, 15]),
+            ),
+        };
+    }
+    p
+}
+
+/// A Low frame whose vector leaves 16 bits: pulses at 0, 18, 36 and 54, all positive, with the
+/// largest gain and lag 18, so that each adds to the next almost whole.
+fn loudest_low() -> SpecFrameParams {
+    SpecFrameParams {
+        acl: [0, 1, 0, 1],
+        gain: [97 * crate::spec_tables::GAIN_TABLE_SIZE + 23; SUBFRAMES_PER_FRAME],
+        pos: [2 << 3 | 4 << 6 | 6 << 9; SUBFRAMES_PER_FRAME],
+        psig: [15; SUBFRAMES_PER_FRAME],
+        ..SpecFrameParams::zeroed(PackedRate::Low)
+    }
+}
+
+/// The same frame for the driver, its indices looked up by the Rust's own functions.
+fn looked_up(p: &SpecFrameParams, prev_lsp: &[i16; LPC_ORDER]) -> Frame {
+    let lags = lags(&p.acl);
+    let gains: [QGainInfo; SUBFRAMES_PER_FRAME] =
+        std::array::from_fn(|s| gain_decode(p.rate, lags[s / 2 * 2], p.gain[s]));
+    Frame {
+        rate: p.rate,
+        candidate: lsp_decode(p.lsp_index, prev_lsp),
+        acl: p.acl,
+        taps: gains.map(|g| g.taps),
+        gain_index: gains.map(|g| g.mgindex as u8),
+        fixed: std::array::from_fn(|s| fixed(p, s, lags[s], &gains[s])),
+    }
+}
+
+/// Pulses as they are; at the low rate the finished vector.
+fn fixed(p: &SpecFrameParams, s: usize, lag: i32, g: &QGainInfo) -> Fixed {
+    match p.rate {
+        PackedRate::High => Fixed::Pulses {
+            pos: p.pos[s],
+            psig: p.psig[s],
+            grid: p.grid[s],
+            train: g.train,
+        },
+        PackedRate::Low => {
+            let mut v = acelp_fixed_vector(p.pos[s], p.psig[s], p.grid[s], g.fcb_gain);
+            acelp_pitch_enhance(&mut v, lag, g.pgindex);
+            Fixed::Vector(v)
+        }
+    }
+}
+
+/// The first difference between the Rust's samples and state and the driver's, if there is one.
+fn same(
+    kind: &str,
+    counts: &Counts,
+    samples: [[i16; FRAME_SIZE_SAMPLES]; 2],
+    states: [&QSynthesis; 2],
+) -> Result<(), String> {
+    let [rust, driver] = states.map(|q| (state::to_numbers(q), state::clamps(q)));
+    let first = if let Some(i) = (0..FRAME_SIZE_SAMPLES).find(|&i| samples[0][i] != samples[1][i]) {
+        format!("sample {i}: {} and {}", samples[0][i], samples[1][i])
+    } else if let Some(i) = (0..state::COUNT).find(|&i| rust.0[i] != driver.0[i]) {
+        format!("state number {i}: {} and {}", rust.0[i], driver.0[i])
+    } else if !(rust.1 && driver.1) {
+        "the synthesis memory is not clamped".to_string()
+    } else {
+        return Ok(());
+    };
+    Err(format!("{kind} frame, after {}: {first}", counts.text()))
+}
+
+impl Counts {
+    /// Counts an erased frame, from the state before it.
+    fn erased(&mut self, state: &QSynthesis) {
+        self.erased[usize::from(state.postfilter)] += 1;
+        self.voiced += u64::from(state.classify_erasure_voicing().0);
+        self.muted += u64::from(state.erased_run >= crate::tables::ERASURE_MUTE_AFTER_FRAMES);
+    }
+
+    /// Counts a received frame.
+    fn received(&mut self, frame: &Frame, postfilter: bool) {
+        let kind = match frame.rate {
+            PackedRate::High => &mut self.high,
+            PackedRate::Low => &mut self.low,
+        };
+        kind[usize::from(postfilter)] += 1;
+        let mut candidate = frame.candidate;
+        self.previous_lsps += u64::from(!lsp_stability(&mut candidate, LSP_DELTA_MIN_Q15));
+        for (s, fixed) in frame.fixed.iter().enumerate() {
+            match fixed {
+                Fixed::Pulses { pos, train, .. } => {
+                    self.trains += u64::from(*train);
+                    let limit = crate::spec_tables::MPMLQ_MAX_POSITION[s];
+                    self.codes_without_slots += u64::from(*pos >= limit);
+                }
+                Fixed::Vector(v) => {
+                    let fits = v.iter().all(|x| i16::try_from(*x).is_ok());
+                    self.low_past_16_bits += u64::from(!fits);
+                }
+            }
+        }
+    }
+
+    /// All counts in one line.
+    fn text(&self) -> String {
+        let kind = |pair: [u64; 2]| {
+            let [off, on] = pair;
+            format!("{} ({on} with postfilter, {off} without)", on + off)
+        };
+        format!(
+            "{}: High {}, Low {}, erased {}; runs {}, {} from given states; trains {}, \
+             codes without slots {}, Low vectors past 16 bits {}, previous LSPs {}, \
+             erased voiced {}, muted {}",
+            received(self) + self.erased.iter().sum::<u64>(),
+            kind(self.high),
+            kind(self.low),
+            kind(self.erased),
+            self.runs,
+            self.given_states,
+            self.trains,
+            self.codes_without_slots,
+            self.low_past_16_bits,
+            self.previous_lsps,
+            self.voiced,
+            self.muted
+        )
+    }
+}
