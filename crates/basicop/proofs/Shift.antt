@@ -1,17 +1,22 @@
 -- Laws of the two shifts, for every largest number M.
 use mathlib.Core.Path.{_≡_, refl, sym, ap, _∙_, subst}
-use mathlib.Core.Bool.{true, false}
+use mathlib.Core.Bool.{Bool, true, false}
 use Prim.Native.Nat.{ℕ, zero, suc, _+_, _*_, _/_, _%_, _^_, _≤_, _<_}
 use native.Mathlib.Nat.{div-eq-of-lt, mod-eq-of-lt, le-trans}
 use native.Mathlib.Omega.{arith}
 use borrow.Author.Tests.{ltb-true, ltb-false}
-use lib.Dec.{T, ltb}
+use lib.Dec.{T, ltb, lit<}
 use lib.Pow.{pow-mono}
 use lib.IntN.{ℤ, pos, negsuc, natAbs, negℤ, _-ℤ_, _*ℤ_}
 use lib.Signed.{mag, ltZ, nonNeg, mag-shr}
+use mir.Syntax.{w32, w64}
+use mir.Val.{SFits, toZ, ofZ}
+use mir.Facts.{toZ-ofZ}
 use Rattle.integers.specs.Base.{saturated, floorDiv}
+use Rattle.integers.specs.Bound.{abs-neg}
 use Rattle.integers.specs.Linear.{line, line-neg, line-sub}
 use Rattle.integers.specs.Saturation.{saturated-id}
+use Rattle.integers.specs.Signed.{signed, sub-fits}
 use Rattle.basicop.specs.Operators.{scaled}
 
 -- ---- signs
@@ -19,16 +24,42 @@ use Rattle.basicop.specs.Operators.{scaled}
 none-below-zero : {X : Type 0} (n : ℕ) → ltb n 0 ≡ true → X
 none-below-zero n h = absurd (let k : n < 0 = ltb-true n 0 h in let z : ⊥ = omega arith in z)
 
-pub neg-nonneg : (z : ℤ) → ltZ z (pos 0) ≡ true → T (nonNeg (negℤ z))
+neg-nonneg : (z : ℤ) → ltZ z (pos 0) ≡ true → T (nonNeg (negℤ z))
 neg-nonneg (pos n) h = none-below-zero n h
 neg-nonneg (negsuc n) h = tt
 
-pub nonneg : (z : ℤ) → ltZ z (pos 0) ≡ false → T (nonNeg z)
-nonneg (pos n) h = tt
-nonneg (negsuc n) h = absurd (subst T h tt)
+nonneg-of : (z : ℤ) → ltZ z (pos 0) ≡ false → T (nonNeg z)
+nonneg-of (pos n) h = tt
+nonneg-of (negsuc n) h = absurd (subst T h tt)
 
-pub zero-sub : (z : ℤ) → pos 0 -ℤ z ≡ negℤ z
+-- z is not negative and has n's size
+pub record Sized (n z : ℤ) : Type 0 where
+  pub nonneg : T (nonNeg z)
+  pub size : natAbs z ≡ natAbs n
+
+zero-sub : (z : ℤ) → pos 0 -ℤ z ≡ negℤ z
 zero-sub z = omega (line, line-sub (pos 0) z, line-neg z)
+
+-- ---- the size of a 32-bit number, taken in 64 bits
+
+module _ {n : ℤ} (f : SFits w32 n) where
+  pub widened : toZ w64 (ofZ w64 (toZ w32 (ofZ w32 n))) ≡ n
+  widened = search signed
+
+  pub negative-fits : SFits w64 (pos 0 -ℤ toZ w64 (ofZ w64 (toZ w32 (ofZ w32 n))))
+  negative-fits = subst (λ (z : ℤ). SFits w64 (pos 0 -ℤ z)) (sym widened) (sub-fits {w₁ = w32} {w₂ = w32} (pos 0) n (record { sfits = lit< tt }) f tt)
+
+  negative : toZ w64 (ofZ w64 (pos 0 -ℤ toZ w64 (ofZ w64 (toZ w32 (ofZ w32 n))))) ≡ negℤ n
+  negative = toZ-ofZ {w = w64} negative-fits ∙ ap (λ (z : ℤ). pos 0 -ℤ z) widened ∙ zero-sub n
+
+  sign : (b : Bool) → ltZ (toZ w64 (ofZ w64 (toZ w32 (ofZ w32 n)))) (pos 0) ≡ b → ltZ n (pos 0) ≡ b
+  sign b h = subst (λ (z : ℤ). ltZ z (pos 0) ≡ b) widened h
+
+  pub size-negative : ltZ (toZ w64 (ofZ w64 (toZ w32 (ofZ w32 n)))) (pos 0) ≡ true → Sized n (toZ w64 (ofZ w64 (pos 0 -ℤ toZ w64 (ofZ w64 (toZ w32 (ofZ w32 n))))))
+  size-negative h = record { nonneg = subst (λ (z : ℤ). T (nonNeg z)) (sym negative) (neg-nonneg n (sign true h)); size = ap natAbs negative ∙ abs-neg n }
+
+  pub size-nonneg : ltZ (toZ w64 (ofZ w64 (toZ w32 (ofZ w32 n)))) (pos 0) ≡ false → Sized n (toZ w64 (ofZ w64 (toZ w32 (ofZ w32 n))))
+  size-nonneg h = record { nonneg = subst (λ (z : ℤ). T (nonNeg z)) (sym widened) (nonneg-of n (sign false h)); size = ap natAbs widened }
 
 -- ---- powers as the code has them
 

@@ -6,7 +6,7 @@
 //! ```text
 //! wide_product a b                        hi lo
 //! wide_times hi lo b                      hi lo, modulo 2^128
-//! wide_shift hi lo n                      hi lo, shifted left
+//! wide_shift hi lo n                      hi lo, shifted left modulo 2^128
 //! wide_less hi lo hi lo                   0 or 1
 //! wide_divide hi lo hi lo                 hi lo, floored; 0 0 for a division by 0
 //! lsp_stability min p(10)                 passed p(10)
@@ -54,7 +54,7 @@ const LAYERS: [(&str, usize, Layer); 33] = [
     ("isqrt64", 1, |q| one(isqrt64(q.one()?))),
     ("wide_product", 2, wide_product),
     ("wide_times", 3, |q| pair(wide(q)?.wrapping_mul(word(q)?))),
-    ("wide_shift", 3, |q| pair(wide(q)? << q.one::<u32>()?)),
+    ("wide_shift", 3, |q| pair(wide(q)?.checked_shl(q.one()?).unwrap_or(0))),
     ("wide_less", 4, |q| one(u8::from(wide(q)? < wide(q)?))),
     ("wide_divide", 4, wide_divide),
     ("cos_q14", 1, |q| one(cos_q14(q.one()?))),

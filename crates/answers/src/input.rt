@@ -1,0 +1,87 @@
+// Words of standard input.
+
+// A place in the buffer, of which `len` bytes are filled.
+pub(crate) struct Cursor {
+    pub(crate) at: usize,
+    pub(crate) len: usize,
+    pub(crate) ended: bool,
+}
+
+struct Byte {
+    value: u8,
+    cursor: Cursor,
+}
+
+// A word: its last eight bytes as one number, and what it is as a decimal number.
+pub(crate) struct Word {
+    pub(crate) name: u64,
+    pub(crate) negative: bool,
+    pub(crate) size: u64,
+}
+
+pub(crate) struct Read {
+    pub(crate) word: Word,
+    pub(crate) cursor: Cursor,
+}
+
+// The next byte; a newline where the input has ended.
+fn next_byte(buf: &mut [u8], c: Cursor) -> Byte {
+    let at = c.at;
+    if at < c.len {
+        if at < buf.len() {
+            let next = Cursor { at: at + 1, len: c.len, ended: false };
+            return Byte { value: buf[at], cursor: next };
+        }
+    }
+    let n = io::read_full(0, buf);
+    if 0 < n {
+        let next = Cursor { at: 1, len: n, ended: false };
+        return Byte { value: buf[0], cursor: next };
+    }
+    let end = Cursor { at: 0, len: 0, ended: true };
+    Byte { value: 10, cursor: end }
+}
+
+// A number of eight bytes without its first, with one more at its end.
+fn shifted_in(n: u64, b: u8) -> u64 {
+    (n % 0x100_0000_0000_0000) * 256 + b as u64
+}
+
+// The word with one byte more. A digit's last four bits are its value.
+fn longer(w: Word, b: u8) -> Word {
+    let digit = (b % 16) as u64;
+    let size = std::num::wrapping_add_u64((w.size % 1_844_674_407_370_955_162) * 10, digit);
+    if b == 45 {
+        Word { name: shifted_in(w.name, b), negative: true, size: w.size }
+    } else {
+        Word { name: shifted_in(w.name, b), negative: w.negative, size: size }
+    }
+}
+
+// The next word, of at most 32 bytes, up to a space or the end of its line.
+pub(crate) fn next_word(buf: &mut [u8], c: Cursor) -> Read {
+    let mut w = Word { name: 0, negative: false, size: 0 };
+    let mut k = c;
+    let mut left: u32 = 32;
+    while left > 0 {
+        let b = next_byte(buf, k);
+        k = b.cursor;
+        if b.value <= 32 {
+            break;
+        }
+        w = longer(w, b.value);
+        left -= 1;
+    }
+    Read { word: w, cursor: k }
+}
+
+// What a name is as the number of a word.
+pub(crate) fn name(text: &[u8]) -> u64 {
+    let mut n: u64 = 0;
+    let mut i = 0;
+    while i < text.len() {
+        n = shifted_in(n, text[i]);
+        i += 1;
+    }
+    n
+}

@@ -1,0 +1,5 @@
+mod input;
+mod operators;
+mod output;
+fn main() {
+}

@@ -1,0 +1,108 @@
+// Questions to crate basicop.
+use crate::input::Cursor;
+use crate::input::Read;
+use crate::input::Word;
+use crate::input::name;
+use crate::input::next_word;
+use crate::output::print16;
+use crate::output::print32;
+use crate::output::print64;
+
+// Whether the name was known, and where the next line begins.
+pub(crate) struct Answered {
+    pub(crate) known: bool,
+    pub(crate) cursor: Cursor,
+}
+
+// The number of a word, or the nearest that fits.
+fn number64(w: Word) -> i64 {
+    if w.size > 0x7FFF_FFFF_FFFF_FFFF {
+        return if w.negative { i64::MIN } else { i64::MAX };
+    }
+    let n = w.size as i64;
+    if w.negative { 0 - n } else { n }
+}
+
+fn number32(w: Word) -> i32 {
+    basicop::sat32(number64(w))
+}
+
+fn number16(w: Word) -> i16 {
+    basicop::saturate(number32(w))
+}
+
+// Two 16-bit operands.
+fn binary16(n: u64, a: i16, b: i16) {
+    if n == name(b"add") {
+        print16(basicop::add(a, b));
+    } else if n == name(b"sub") {
+        print16(basicop::sub(a, b));
+    } else if n == name(b"mult") {
+        print16(basicop::mult(a, b));
+    } else {
+        print32(basicop::l_mult(a, b));
+    }
+}
+
+// A 16-bit number and a count.
+fn shift(n: u64, a: i16, count: i32) {
+    if n == name(b"shl") {
+        print16(basicop::shl(a, count));
+    } else {
+        print16(basicop::shr(a, count));
+    }
+}
+
+// One operand.
+fn unary(n: u64, w: Word) {
+    if n == name(b"isqrt64") {
+        print64(basicop::isqrt64(w.size) as u64);
+    } else if n == name(b"sat32") {
+        print32(basicop::sat32(number64(w)));
+    } else if n == name(b"saturate") {
+        print16(basicop::saturate(number32(w)));
+    } else if n == name(b"extract_h") {
+        print16(basicop::extract_h(number32(w)));
+    } else {
+        print16(basicop::round16(number32(w)));
+    }
+}
+
+fn is_unary(n: u64) -> bool {
+    n == name(b"isqrt64")
+        || n == name(b"sat32")
+        || n == name(b"saturate")
+        || n == name(b"extract_h")
+        || n == name(b"round16")
+}
+
+fn is_binary16(n: u64) -> bool {
+    n == name(b"add") || n == name(b"sub") || n == name(b"mult") || n == name(b"l_mult")
+}
+
+fn is_shift(n: u64) -> bool {
+    n == name(b"shl") || n == name(b"shr")
+}
+
+// A question with two operands or three.
+fn longer(buf: &mut [u8], n: u64, first: Read) -> Answered {
+    let a = first.word;
+    let second = next_word(buf, first.cursor);
+    let b = second.word;
+    let mut end = second.cursor;
+    let mut known = true;
+    if is_binary16(n) {
+        binary16(n, number16(a), number16(b));
+    } else if is_shift(n) {
+        shift(n, number16(a), number32(b));
+    } else if n == name(b"l_add") {
+        print32(basicop::l_add(number32(a), number32(b)));
+    } else if n == name(b"l_mac") {
+        let third = next_word(buf, end);
+        print32(basicop::l_mac(number32(a), number16(b), number16(third.word)));
+        end = third.cursor;
+    } else {
+        known = false;
+    }
+    Answered { known: known, cursor: end }
+}
