@@ -1,0 +1,34 @@
+-- Numbers of two digits h and l, h * P + l, in any base P. Assumes nothing.
+use mathlib.Core.Path.{_≡_, sym, ap, _∙_, subst}
+use Prim.Native.Nat.{ℕ, _+_, _*_, _/_, _%_, _≤_, _<_}
+use native.Mathlib.Nat.{le-of-lt, lt-of-le-of-lt, mul-le-mul-left, mul-le-mul-right, mul-lt-mul-of-pos-right, lt-of-mul-lt-mul-right, div-add-mod', mod-lt}
+use native.Mathlib.Omega.{arith}
+use lib.Arith.{digits-lt, digits-mod}
+
+-- ---- orders
+
+pub product-lt : (P a b : ℕ) → a < P → b < P → a * b < P * P
+product-lt P a b h k = lt-of-le-of-lt (mul-le-mul-left a (le-of-lt k)) (mul-lt-mul-of-pos-right h (omega arith))
+
+pub pair-lt : (P h l h′ l′ : ℕ) → h < h′ → l < P → h * P + l < h′ * P + l′
+pair-lt P h l h′ l′ p q = omega (arith, mul-le-mul-right P p)
+
+pub high-lt : (P h l m : ℕ) → h * P + l < m * P → h < m
+high-lt P h l m p = lt-of-mul-lt-mul-right P (omega arith)
+
+-- ---- modulo the square of the base
+
+pub mod-square : (P q h l : ℕ) → 0 < P → l < P → (q * (P * P) + (h * P + l)) % (P * P) ≡ h % P * P + l
+mod-square P q h l p k =
+    ap (λ (n : ℕ). n % (P * P)) (regroup (h / P) (h % P) (div-add-mod' h P))
+    ∙ digits-mod (q + h / P) (digits-lt (mod-lt h p) k)
+  where
+    regroup : (x y : ℕ) → x * P + y ≡ h → q * (P * P) + (h * P + l) ≡ (q + x) * (P * P) + (y * P + l)
+    regroup x y e = subst (λ (z : ℕ). q * (P * P) + (z * P + l) ≡ (q + x) * (P * P) + (y * P + l)) e (omega arith)
+
+-- a pair times b, of the products by its digits
+pub times-is : (P ah al b ph pl qh ql : ℕ) → 0 < P → pl < P → ph * P + pl ≡ al * b → qh * P + ql ≡ ah * b → (ph + ql) % P * P + pl ≡ (ah * P + al) * b % (P * P)
+times-is P ah al b ph pl qh ql p k e f = sym (ap (λ (n : ℕ). n % (P * P)) whole ∙ mod-square P qh (ph + ql) pl p k)
+  where
+    whole : (ah * P + al) * b ≡ qh * (P * P) + ((ph + ql) * P + pl)
+    whole = omega (arith, ap (λ (n : ℕ). n * P) f)
