@@ -1,0 +1,51 @@
+-- One digit of a long division in base B: the quotient of u * B + l by v₁ * B + v₀, from an estimate q that leaves r of u by v₁ alone. Assumes nothing.
+use mathlib.Core.Path.{_≡_, sym, ap, _∙_, subst}
+use Prim.Native.Nat.{ℕ, _+_, _*_, _-_, _/_, _%_, _^_, _≤_, _<_}
+use native.Mathlib.Nat.{mul-le-mul-right, mul-le-mul-left, lt-of-mul-lt-mul-left, lt-of-mul-lt-mul-right, div-add-mod', mod-lt, mod-add-mod, add-mod-right, mod-eq-of-lt}
+use native.Mathlib.Omega.{arith}
+use lib.Arith.{digits-lt}
+
+-- a quotient by a number above u is one digit
+pub digit-lt : (B u l v q : ℕ) → u < v → l < B → q * v ≤ u * B + l → q < B
+digit-lt B u l v q h k p = lt-of-mul-lt-mul-left v (omega (arith, mul-le-mul-right B h))
+
+-- a difference below M, from its sum with p modulo M
+pub difference : (M n p x : ℕ) → x < M → p ≤ M → p ≤ n → n - p < M → (x + p) % M ≡ n % M → x ≡ n - p
+difference M n p x h k b d e = sym (again x h) ∙ ap (λ (y : ℕ). (y + (M - p)) % M) (e ∙ ap (λ (y : ℕ). y % M) {y = n - p + p} (omega arith)) ∙ again (n - p) d
+  where
+    again : (z : ℕ) → z < M → ((z + p) % M + (M - p)) % M ≡ z
+    again z c = mod-add-mod (z + p) M (M - p) ∙ ap (λ (y : ℕ). y % M) {y = z + M} (omega arith) ∙ add-mod-right z M ∙ mod-eq-of-lt c
+
+pub record Estimate (B u l v₁ v₀ q r : ℕ) : Type 0 where
+  pub sum : q * v₁ + r ≡ u
+  pub above : u * B + l < (q + 1) * (v₁ * B + v₀)
+
+module _ (B u l v₁ v₀ : ℕ) where
+  pub first : 0 < v₁ → l < B → Estimate B u l v₁ v₀ (u / v₁) (u % v₁)
+  first p h = record {
+    sum = div-add-mod' u v₁;
+    above = omega (arith, mul-le-mul-right B (mod-lt u p), ap (λ (x : ℕ). x * B) (div-add-mod' u v₁));
+  }
+
+  module _ (q r : ℕ) (i : Estimate B u l v₁ v₀ q r) where
+    -- the estimate is above the quotient exactly where q * v₀ is above r * B + l
+    balance : q * (v₁ * B + v₀) + (r * B + l) ≡ u * B + l + q * v₀
+    balance = omega (arith, ap (λ (x : ℕ). x * B) (i .sum))
+
+    pub positive : r * B + l < q * v₀ → 0 < q
+    positive h = lt-of-mul-lt-mul-right v₀ (omega arith)
+
+    pub next : r * B + l < q * v₀ → Estimate B u l v₁ v₀ (q - 1) (r + v₁)
+    next h =
+        let e : q - 1 + 1 ≡ q = omega (arith, positive h) in
+        record {
+          sum = omega (arith, ap (λ (x : ℕ). x * v₁) e, i .sum);
+          above = subst (λ (x : ℕ). u * B + l < x * (v₁ * B + v₀)) (sym e) (omega (arith, balance));
+        }
+
+    pub right : q * v₀ ≤ r * B + l → (q * (v₁ * B + v₀) + (r * B + l - q * v₀) ≡ u * B + l) × (r * B + l - q * v₀ < v₁ * B + v₀)
+    right h = omega (arith, balance, i .above)
+
+    -- an estimate of more than one digit is above a quotient of one digit
+    pub long : u < v₁ * B + v₀ → l < B → B ≤ q → r * B + l < q * v₀
+    long h k p = omega (arith, balance, mul-le-mul-right B h, mul-le-mul-right (v₁ * B + v₀) p)
