@@ -3,7 +3,10 @@ use mathlib.Core.Path.{_≡_, sym, ap, _∙_, subst}
 use Prim.Native.Nat.{ℕ, _+_, _*_, _-_, _/_, _%_, _^_, _≤_, _<_}
 use native.Mathlib.Nat.{mul-le-mul-right, mul-le-mul-left, lt-of-mul-lt-mul-left, lt-of-mul-lt-mul-right, div-add-mod', mod-lt, mod-add-mod, add-mod-right, mod-eq-of-lt}
 use native.Mathlib.Omega.{arith}
-use lib.Arith.{digits-lt}
+use lib.Arith.{digits-div}
+
+pub quotient-is : (n d q r : ℕ) → q * d + r ≡ n → r < d → q ≡ n / d
+quotient-is n d q r e h = sym (ap (λ (x : ℕ). x / d) (sym e) ∙ digits-div q h)
 
 -- a quotient by a number above u is one digit
 pub digit-lt : (B u l v q : ℕ) → u < v → l < B → q * v ≤ u * B + l → q < B

@@ -1,6 +1,13 @@
-use Prim.Native.Nat.{_+_, _*_, _^_, _<_}
+-- `wide::corrected` meets its contract. Each turn takes one off an estimate that is too large; where the remainder leaves the word, the estimate is right. The measure is the estimate.
+-- Assumes nothing.
+use mathlib.Core.Path.{_≡_, refl, sym, _∙_, subst}
+use Prim.Native.Nat.{ℕ, _+_, _*_, _-_, _/_, _^_, _≤_, _<_}
+use native.Mathlib.Nat.{le-trans, le-add-right, mul-le-mul}
+use native.Mathlib.Omega.{arith}
 use borrow.Author.Needs.{needs}
-use Rattle.wide.proofs.Estimates.{Estimate}
+use borrow.Author.Tests.{ltb-true, ltb-false}
+use Rattle.wide.specs.Value.{value}
+use Rattle.wide.proofs.Estimates.{Estimate, quotient-is, positive, next, right}
 use Rattle.wide.proofs.corrected.Statement.{statement}
 use Rattle.wide.proofs.corrected.Tie as tie
 use Rattle.wide.proofs.corrected.Reads as reads
@@ -15,34 +22,67 @@ abbrev μ-loop : tie.MeasureT-loop
 μ-loop l d q₀ r₀ q r = q
 
 loop-holds : tie.Need-loop-holds Inv-loop μ-loop
-loop-holds c = ?
+loop-holds c = (record { sum = refl; above = c .pre }, search needs, search needs)
 
 product-requires : tie.Need-product-requires Inv-loop μ-loop
-product-requires c κs = ?
+product-requires c κs = search needs
 
 less-requires : tie.Need-less-requires Inv-loop μ-loop
-less-requires c κs = ?
+less-requires c κs = search needs
+
+-- the number divided
+abbrev high : tie.Start Inv-loop μ-loop → ℕ
+high s = s .args .estimate .quotient * s .args .d .hi + s .args .estimate .remainder
+
+-- the test is true
+above : (c : tie.Then1 Inv-loop μ-loop) → let i = c .before .before .before in i .loop .r * 2 ^ 64 + i .before .args .l < i .loop .q * i .before .args .d .lo
+above c =
+    let i = c .before .before .before in
+    subst (λ (x : ℕ). i .loop .r * 2 ^ 64 + i .before .args .l < x) (c .before .before .product .ensures) (ltb-true _ _ (sym (c .before .less .ensures) ∙ c .if1 .taken))
+
+again : (c : tie.Then1 Inv-loop μ-loop) → let i = c .before .before .before in let s = i .before in Estimate (2 ^ 64) (high s) (s .args .l) (s .args .d .hi) (s .args .d .lo) (i .loop .q - 1) (i .loop .r + s .args .d .hi)
+again c =
+    let i = c .before .before .before in
+    let s = i .before in
+    next (2 ^ 64) (high s) (s .args .l) (s .args .d .hi) (s .args .d .lo) (i .loop .q) (i .loop .r) (i .loop .inv .0) (above c)
+
+some : (c : tie.Then1 Inv-loop μ-loop) → 0 < c .before .before .before .loop .q
+some c =
+    let i = c .before .before .before in
+    let s = i .before in
+    positive (2 ^ 64) (high s) (s .args .l) (s .args .d .hi) (s .args .d .lo) (i .loop .q) (i .loop .r) (i .loop .inv .0) (above c)
 
 sub-q : tie.Need-sub-q Inv-loop μ-loop
-sub-q c = ?
+sub-q c = some c
 
 sub-if2 : tie.Need-sub-if2 Inv-loop μ-loop
-sub-if2 c = ?
+sub-if2 c = search needs
 
 returns : tie.Need-returns Inv-loop μ-loop
-returns c = ?
+returns c =
+    let t = c .before .before in
+    let i = t .before .before .before in
+    let s = i .before in
+    let w = right (2 ^ 64) (high s) (s .args .l) (s .args .d .hi) (s .args .d .lo) (i .loop .q - 1) (i .loop .r + s .args .d .hi) (again t)
+    (le-trans (mul-le-mul {n₁ = i .loop .q - 1} {m₁ = s .args .d .lo} {n₂ = i .loop .r + s .args .d .hi} {m₂ = 2 ^ 64} (omega arith) (search needs)) (le-add-right _ _)) in
+    quotient-is _ _ _ _ (w .0) (w .1)
 
 add-r : tie.Need-add-r Inv-loop μ-loop
-add-r c = ?
+add-r c = search needs
 
 loop-less : tie.Need-loop-less Inv-loop μ-loop
-loop-less c = ?
+loop-less c = omega (arith, some (c .before .before .before))
 
 loop-again : tie.Need-loop-again Inv-loop μ-loop
-loop-again c = ?
+loop-again c = (again (c .before .before .before), search needs, search needs)
 
 returns-2 : tie.Need-returns-2 Inv-loop μ-loop
-returns-2 c = ?
+returns-2 c =
+    let i = c .before .before .before in
+    let s = i .before in
+    let w = right (2 ^ 64) (high s) (s .args .l) (s .args .d .hi) (s .args .d .lo) (i .loop .q) (i .loop .r) (i .loop .inv .0)
+    (subst (λ (x : ℕ). x ≤ i .loop .r * 2 ^ 64 + s .args .l) (c .before .before .product .ensures) (ltb-false _ _ (sym (c .before .less .ensures) ∙ c .if1 .left))) in
+    quotient-is _ _ _ _ (w .0) (w .1)
 
 pub corrected-spec : {M : Type 1} → statement M
 corrected-spec =
