@@ -1,3 +1,6 @@
+use Prim.Native.Nat.{_/_, _%_, _^_, _<_}
+use native.Mathlib.Omega.{arith}
+use Rattle.wide.proofs.Estimates.{digit-lt}
 use borrow.Author.Needs.{needs}
 use Rattle.wide.proofs.two_digits.Statement.{statement}
 use Rattle.wide.proofs.two_digits.Tie as tie
@@ -5,33 +8,37 @@ use Rattle.wide.proofs.two_digits.Reads as reads
 use Rattle.wide.proofs.two_digits.Lts as lts
 use Rattle.wide.proofs.digit.Reads as digit-reads
 
--- src/lib.rt:137:25
 cast-digit : tie.Need-cast-digit
 cast-digit c = search needs
 
--- src/lib.rt:137:9
 digit-requires : tie.Need-digit-requires
 digit-requires c κs = search needs
 
--- src/lib.rt:138:32
 cast-digit-2 : tie.Need-cast-digit-2
 cast-digit-2 c = search needs
 
--- src/lib.rt:138:9
 digit-requires-2 : tie.Need-digit-requires-2
 digit-requires-2 c κs = search needs
 
--- src/lib.rt:140:19
+-- each quotient is one digit
+small : (c : tie.After-digit2) → (c .before .before .digit .result .quotient < 2 ^ 32) × (c .digit2 .result .quotient < 2 ^ 32)
+small c =
+    let d = c .before .before in
+    let s = d .before .before in (
+      digit-lt (2 ^ 32) (s .args .n .hi) (s .args .n .lo / 2 ^ 32) (s .args .v) (d .digit .result .quotient) (s .pre .1) (omega (arith, d .before)) (omega (arith, d .digit .ensures .0)),
+      digit-lt (2 ^ 32) (d .digit .result .remainder) (s .args .n .lo % 2 ^ 32) (s .args .v) (c .digit2 .result .quotient) (d .digit .ensures .1) (search needs) (omega (arith, c .digit2 .ensures .0)),
+    )
+
 mul-t5 : tie.Need-mul-t5
-mul-t5 c = search needs
+mul-t5 c = omega (arith, small (c .before))
 
--- src/lib.rt:140:19
 add-t7 : tie.Need-add-t7
-add-t7 c = search needs
+add-t7 c = omega (arith, small (c .before .before))
 
--- src/lib.rt:133:1
 returns : tie.Need-returns
-returns c = search needs
+returns c =
+    let e = c .before .before in
+    (omega (arith, e .before .before .digit .ensures .0, e .digit2 .ensures .0), e .digit2 .ensures .1)
 
 pub two-digits-spec : {M : Type 1} → statement M
 two-digits-spec =

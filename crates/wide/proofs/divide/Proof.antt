@@ -1,0 +1,33 @@
+use borrow.Author.Needs.{needs}
+use Rattle.wide.proofs.divide.Statement.{statement}
+use Rattle.wide.proofs.divide.Tie as tie
+use Rattle.wide.proofs.divide.Reads as reads
+use Rattle.wide.proofs.divide.Lts as lts
+use Rattle.wide.proofs.by_pair.Reads as by-pair-reads
+use Rattle.wide.proofs.by_word.Reads as by-word-reads
+
+by-pair-requires : tie.Need-by-pair-requires
+by-pair-requires c κs = search needs
+
+returns : tie.Need-returns
+returns c = search needs
+
+returns-2 : tie.Need-returns-2
+returns-2 c = search needs
+
+div-t6 : tie.Need-div-t6
+div-t6 c = search needs
+
+rem-t8 : tie.Need-rem-t8
+rem-t8 c = search needs
+
+by-word-requires : tie.Need-by-word-requires
+by-word-requires c κs = search needs
+
+returns-3 : tie.Need-returns-3
+returns-3 c = search needs
+
+pub divide-spec : {M : Type 1} → statement M
+divide-spec =
+    tie.close
+    (tie.spec by-pair-requires returns returns-2 div-t6 rem-t8 by-word-requires returns-3)
