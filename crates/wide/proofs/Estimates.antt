@@ -1,7 +1,7 @@
 -- One digit of a long division in base B: the quotient of u * B + l by v₁ * B + v₀, from an estimate q that leaves r of u by v₁ alone. Assumes nothing.
 use mathlib.Core.Path.{_≡_, sym, ap, _∙_, subst}
 use Prim.Native.Nat.{ℕ, _+_, _*_, _-_, _/_, _%_, _^_, _≤_, _<_}
-use native.Mathlib.Nat.{mul-le-mul-right, mul-le-mul-left, lt-of-mul-lt-mul-left, lt-of-mul-lt-mul-right, div-add-mod', mod-lt, mod-add-mod, add-mod-right, mod-eq-of-lt}
+use native.Mathlib.Nat.{mul-le-mul-right, mul-le-mul-left, lt-of-mul-lt-mul-left, lt-of-mul-lt-mul-right, mod-add-mod, add-mod-right, mod-eq-of-lt}
 use native.Mathlib.Omega.{arith}
 use lib.Arith.{digits-div}
 
@@ -24,11 +24,9 @@ pub record Estimate (B u l v₁ v₀ q r : ℕ) : Type 0 where
   pub above : u * B + l < (q + 1) * (v₁ * B + v₀)
 
 module _ (B u l v₁ v₀ : ℕ) where
-  pub first : 0 < v₁ → l < B → Estimate B u l v₁ v₀ (u / v₁) (u % v₁)
-  first p h = record {
-    sum = div-add-mod' u v₁;
-    above = omega (arith, mul-le-mul-right B (mod-lt u p), ap (λ (x : ℕ). x * B) (div-add-mod' u v₁));
-  }
+  -- the quotient by v₁ is the first estimate
+  pub first : (q r : ℕ) → q * v₁ + r ≡ u → r < v₁ → l < B → Estimate B u l v₁ v₀ q r
+  first q r e p h = record { sum = e; above = omega (arith, mul-le-mul-right B p, ap (λ (x : ℕ). x * B) e) }
 
   module _ (q r : ℕ) (i : Estimate B u l v₁ v₀ q r) where
     -- the estimate is above the quotient exactly where q * v₀ is above r * B + l

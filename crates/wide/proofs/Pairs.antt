@@ -16,6 +16,9 @@ pair-lt P h l h′ l′ p q = omega (arith, mul-le-mul-right P p)
 pub high-lt : (P h l m : ℕ) → h * P + l < m * P → h < m
 high-lt P h l m p = lt-of-mul-lt-mul-right P (omega arith)
 
+pub high-le : (P h l m : ℕ) → l < P → m * P ≤ h * P + l → m ≤ h
+high-le P h l m p q = omega (arith, lt-of-mul-lt-mul-right P {m = m} {n = h + 1} (omega arith))
+
 -- ---- modulo the square of the base
 
 pub mod-square : (P q h l : ℕ) → 0 < P → l < P → (q * (P * P) + (h * P + l)) % (P * P) ≡ h % P * P + l

@@ -1,7 +1,7 @@
 -- A pair h * P + l times K, where K * Q is the base P: what a digit has from Q on crosses into the next. Assumes nothing.
 use mathlib.Core.Path.{_≡_, sym, ap, _∙_, subst}
 use Prim.Native.Nat.{ℕ, _+_, _*_, _-_, _/_, _%_, _^_, _≤_, _<_}
-use native.Mathlib.Nat.{mul-one, mul-mod-left, sub-add-cancel, mul-le-mul-right, mul-lt-mul-of-pos-right, mod-eq-of-lt, div-lt-iff-lt-mul, div-add-mod', mod-lt}
+use native.Mathlib.Nat.{lt-of-lt-of-le, mul-one, mul-mod-left, sub-add-cancel, mul-le-mul-right, mul-lt-mul-of-pos-right, mod-eq-of-lt, div-lt-iff-lt-mul, div-add-mod', mod-lt}
 use native.Mathlib.Omega.{arith}
 use lib.Arith.{digits-lt, digits-mod, digits-div}
 use lib.Pow.{pow-add}
@@ -20,6 +20,13 @@ by-digit P K h l p = sym (ap (λ (x : ℕ). x % (P * P)) {y = h * K * (P * P) + 
 -- by all digits and more
 pub by-all : (D K x : ℕ) → 0 ≡ x * (D * K) % D
 by-all D K x = sym (ap (λ (y : ℕ). y % D) {y = x * K * D} (omega arith) ∙ mul-mod-left (x * K) D)
+
+-- where the top bits are clear nothing is lost
+pub exact : (P K m h l n : ℕ) → 0 < K → l < P → (h + 1) * K ≤ m → m ≤ P → n ≡ (h * P + l) * K % (P * P) → (n ≡ (h * P + l) * K) × (n < m * P)
+exact P K m h l n k b c d e =
+    let below : (h * P + l) * K < m * P = omega (arith, mul-lt-mul-of-pos-right {m = h * P + l} {n = (h + 1) * P} {k = K} (omega arith) k, mul-le-mul-right P c) in
+    let is : n ≡ (h * P + l) * K = e ∙ mod-eq-of-lt (lt-of-lt-of-le below (mul-le-mul-right P d)) in
+    (is, subst (λ (x : ℕ). x < m * P) (sym is) below)
 
 -- by less than a digit
 module _ (P K Q : ℕ) (e : K * Q ≡ P) (k : 0 < K) (q : 0 < Q) where
@@ -59,3 +66,9 @@ module _ (P K Q : ℕ) (e : K * Q ≡ P) (k : 0 < K) (q : 0 < Q) where
         sym
         (ap (λ (x : ℕ). x % (P * P)) whole ∙ mod-square P (h / Q) (h * K % P + l / Q) (l * K % P) base-positive (mod-lt (l * K) base-positive)
         ∙ ap (λ (x : ℕ). x * P + l * K % P) (mod-eq-of-lt crossing-fits))
+
+    -- all three digits, of which the highest is what h times K has above its digit
+    pub three-digits : (h′ l′ m n : ℕ) → h′ * P + l′ ≡ (h * P + l) * K % (P * P) → m * P + n ≡ h * K → n < P → (m * P + h′) * P + l′ ≡ (h * P + l) * K
+    three-digits h′ l′ m n f g d =
+        let top : m ≡ h / Q = sym (digits-div m d) ∙ ap (λ (x : ℕ). x / P) g ∙ crosses h in
+        omega (arith, whole, shifted, f, ap (λ (x : ℕ). x * (P * P)) top)

@@ -84,7 +84,7 @@ pub fn less(a: Wide, b: Wide) -> bool
 // The shift that brings the top bit of v to the top of the word.
 fn top_shift(v: u64) -> u32
     requires { ⌜ 0 < v ⌝ }
-    ensures { λ r. ⌜ (2 ^ 63 ≤ v * 2 ^ r) × (v * 2 ^ r < 2 ^ 64) ⌝ }
+    ensures { λ r. ⌜ (r < 64) × (2 ^ 63 ≤ v * 2 ^ r) × (v * 2 ^ r < 2 ^ 64) ⌝ }
 {
     u64::leading_zeros(v)
 }
@@ -155,7 +155,7 @@ fn by_word(n: Wide, v: u64) -> u64
 
 // The quotient from the estimate q that leaves r of the high words.
 fn corrected(estimate: Division, l: u64, d: Wide) -> u64
-    requires { ⌜ (estimate .quotient * d .hi + estimate .remainder) * 2 ^ 64 + l < (estimate .quotient + 1) * value d ⌝ }
+    requires { ⌜ estimate .remainder < d .hi ⌝ }
     ensures { λ t. ⌜ t ≡ ((estimate .quotient * d .hi + estimate .remainder) * 2 ^ 64 + l) / value d ⌝ }
 {
     let mut q = estimate.quotient;

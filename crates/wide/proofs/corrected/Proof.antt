@@ -7,7 +7,7 @@ use native.Mathlib.Omega.{arith}
 use borrow.Author.Needs.{needs}
 use borrow.Author.Tests.{ltb-true, ltb-false}
 use Rattle.wide.specs.Value.{value}
-use Rattle.wide.proofs.Estimates.{Estimate, quotient-is, positive, next, right}
+use Rattle.wide.proofs.Estimates.{Estimate, quotient-is, first, positive, next, right}
 use Rattle.wide.proofs.corrected.Statement.{statement}
 use Rattle.wide.proofs.corrected.Tie as tie
 use Rattle.wide.proofs.corrected.Reads as reads
@@ -21,18 +21,18 @@ Inv-loop l d q₀ r₀ q r = Estimate (2 ^ 64) (q₀ * d .hi + r₀) l (d .hi) (
 abbrev μ-loop : tie.MeasureT-loop
 μ-loop l d q₀ r₀ q r = q
 
+-- the high words of the number divided
+abbrev high : tie.Start Inv-loop μ-loop → ℕ
+high s = s .args .estimate .quotient * s .args .d .hi + s .args .estimate .remainder
+
 loop-holds : tie.Need-loop-holds Inv-loop μ-loop
-loop-holds c = (record { sum = refl; above = c .pre }, search needs, search needs)
+loop-holds c = (first (2 ^ 64) (high c) (c .args .l) (c .args .d .hi) (c .args .d .lo) (c .args .estimate .quotient) (c .args .estimate .remainder) refl (c .pre) (c .fits .l .fits), search needs, search needs)
 
 product-requires : tie.Need-product-requires Inv-loop μ-loop
 product-requires c κs = search needs
 
 less-requires : tie.Need-less-requires Inv-loop μ-loop
 less-requires c κs = search needs
-
--- the number divided
-abbrev high : tie.Start Inv-loop μ-loop → ℕ
-high s = s .args .estimate .quotient * s .args .d .hi + s .args .estimate .remainder
 
 -- the test is true
 above : (c : tie.Then1 Inv-loop μ-loop) → let i = c .before .before .before in i .loop .r * 2 ^ 64 + i .before .args .l < i .loop .q * i .before .args .d .lo

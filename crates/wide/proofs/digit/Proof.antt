@@ -2,7 +2,7 @@
 -- Assumes nothing.
 use mathlib.Core.Path.{_≡_, sym, ap, _∙_, subst}
 use Prim.Native.Nat.{ℕ, _+_, _*_, _-_, _/_, _%_, _^_, _≤_, _<_}
-use native.Mathlib.Nat.{div-add-mod'}
+use native.Mathlib.Nat.{div-add-mod', mod-lt}
 use native.Mathlib.Omega.{arith}
 use borrow.Author.Needs.{needs}
 use borrow.Author.Tests.{ltb-true, ltb-false}
@@ -31,7 +31,9 @@ rem-r : tie.Need-rem-r Inv-loop μ-loop
 rem-r c = search needs
 
 loop-holds : tie.Need-loop-holds Inv-loop μ-loop
-loop-holds c = first (2 ^ 32) (c .args .u) (c .args .l) (c .args .v / 2 ^ 32) (c .args .v % 2 ^ 32) (omega arith) (c .fits .l .fits)
+loop-holds c =
+    let v1 = c .args .v / 2 ^ 32 in
+    first (2 ^ 32) (c .args .u) (c .args .l) v1 (c .args .v % 2 ^ 32) (c .args .u / v1) (c .args .u % v1) (div-add-mod' (c .args .u) v1) (mod-lt (c .args .u) (omega arith)) (c .fits .l .fits)
 
 too-large-requires : tie.Need-too-large-requires Inv-loop μ-loop
 too-large-requires c κs =

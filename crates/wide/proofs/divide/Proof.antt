@@ -1,3 +1,7 @@
+use mathlib.Core.Path.{sym, _∙_}
+use Prim.Native.Nat.{_+_, _*_, _/_, _%_, _^_}
+use native.Mathlib.Omega.{arith}
+use Rattle.wide.specs.Value.{value, quotient-by-zero}
 use borrow.Author.Needs.{needs}
 use Rattle.wide.proofs.divide.Statement.{statement}
 use Rattle.wide.proofs.divide.Tie as tie
@@ -10,10 +14,12 @@ by-pair-requires : tie.Need-by-pair-requires
 by-pair-requires c κs = search needs
 
 returns : tie.Need-returns
-returns c = search needs
+returns c = omega (arith, c .by-pair .ensures)
 
 returns-2 : tie.Need-returns-2
-returns-2 c = search needs
+returns-2 c =
+    let s = c .before .before .before in
+    sym ((λ i. value (s .args .n) / (c .before .if1 .left i * 2 ^ 64 + c .if2 .taken i)) ∙ quotient-by-zero (value (s .args .n)))
 
 div-t6 : tie.Need-div-t6
 div-t6 c = search needs
@@ -25,7 +31,9 @@ by-word-requires : tie.Need-by-word-requires
 by-word-requires c κs = search needs
 
 returns-3 : tie.Need-returns-3
-returns-3 c = search needs
+returns-3 c =
+    let s = c .before .before .before .before .before .before in
+    ?
 
 pub divide-spec : {M : Type 1} → statement M
 divide-spec =

@@ -8,8 +8,9 @@ use lib.Count.{leadingZeros, leading-top}
 use Rattle.wide.proofs.top_shift.Statement.{statement}
 use Rattle.wide.proofs.top_shift.Tie as tie
 
-shifted-top : (a k s : ℕ) → 2 ^ k ≤ a → a < 2 ^ suc k → s + suc k ≡ 64 → (2 ^ 63 ≤ a * 2 ^ s) × (a * 2 ^ s < 2 ^ 64)
+shifted-top : (a k s : ℕ) → 2 ^ k ≤ a → a < 2 ^ suc k → s + suc k ≡ 64 → (s < 64) × (2 ^ 63 ≤ a * 2 ^ s) × (a * 2 ^ s < 2 ^ 64)
 shifted-top a k s low high e = (
+  omega arith,
   subst (λ (x : ℕ). 2 ^ x ≤ a * 2 ^ s) {y = 63} (omega arith) (le-trans (le-of-eq (pow-add 2 k s)) (mul-le-mul-right (2 ^ s) low)),
   subst (λ (x : ℕ). a * 2 ^ s < 2 ^ x) {y = 64} (omega arith) (shl-lt {a = a} (suc k) s high),
 )
