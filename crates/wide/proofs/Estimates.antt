@@ -1,12 +1,19 @@
 -- One digit of a long division in base B: the quotient of u * B + l by v₁ * B + v₀, from an estimate q that leaves r of u by v₁ alone. Assumes nothing.
 use mathlib.Core.Path.{_≡_, sym, ap, _∙_, subst}
 use Prim.Native.Nat.{ℕ, _+_, _*_, _-_, _/_, _%_, _^_, _≤_, _<_}
-use native.Mathlib.Nat.{mul-le-mul-right, mul-le-mul-left, lt-of-mul-lt-mul-left, lt-of-mul-lt-mul-right, mod-add-mod, add-mod-right, mod-eq-of-lt}
+use native.Mathlib.Nat.{mul-le-mul-right, mul-le-mul-left, lt-of-mul-lt-mul-left, lt-of-mul-lt-mul-right, div-add-mod', mul-add-div-right, mod-add-mod, add-mod-right, mod-eq-of-lt}
 use native.Mathlib.Omega.{arith}
 use lib.Arith.{digits-div}
 
 pub quotient-is : (n d q r : ℕ) → q * d + r ≡ n → r < d → q ≡ n / d
 quotient-is n d q r e h = sym (ap (λ (x : ℕ). x / d) (sym e) ∙ digits-div q h)
+
+-- the quotient of a pair by v, from that of the digit h
+pub pair-quotient : (P h l v : ℕ) → 0 < v → h / v * P + (h % v * P + l) / v ≡ (h * P + l) / v
+pair-quotient P h l v p =
+    sym
+    (ap (λ (x : ℕ). x / v) {y = h / v * P * v + (h % v * P + l)} (omega (arith, ap (λ (x : ℕ). x * P) (div-add-mod' h v)))
+    ∙ mul-add-div-right p (h / v * P) (h % v * P + l))
 
 -- a quotient by a number above u is one digit
 pub digit-lt : (B u l v q : ℕ) → u < v → l < B → q * v ≤ u * B + l → q < B

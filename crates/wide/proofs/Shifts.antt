@@ -1,11 +1,11 @@
 -- A pair h * P + l times K, where K * Q is the base P: what a digit has from Q on crosses into the next. Assumes nothing.
 use mathlib.Core.Path.{_≡_, sym, ap, _∙_, subst}
 use Prim.Native.Nat.{ℕ, _+_, _*_, _-_, _/_, _%_, _^_, _≤_, _<_}
-use native.Mathlib.Nat.{lt-of-lt-of-le, mul-one, mul-mod-left, sub-add-cancel, mul-le-mul-right, mul-lt-mul-of-pos-right, mod-eq-of-lt, div-lt-iff-lt-mul, div-add-mod', mod-lt}
+use native.Mathlib.Nat.{lt-of-lt-of-le, lt-of-mul-lt-mul-right, mul-one, mul-mod-left, sub-add-cancel, mul-le-mul-right, mul-lt-mul-of-pos-right, mod-eq-of-lt, div-lt-iff-lt-mul, div-add-mod', mod-lt}
 use native.Mathlib.Omega.{arith}
 use lib.Arith.{digits-lt, digits-mod, digits-div}
 use lib.Pow.{pow-add}
-use Rattle.wide.proofs.Pairs.{mod-square}
+use Rattle.wide.proofs.Pairs.{high-le, mod-square}
 
 pub power-split : (a n : ℕ) → a ≤ n → 2 ^ a * 2 ^ (n - a) ≡ 2 ^ n
 power-split a n h = sym (pow-add 2 a (n - a)) ∙ ap (λ (x : ℕ). 2 ^ x) (omega arith)
@@ -28,6 +28,9 @@ exact P K m h l n k b c d e =
     let is : n ≡ (h * P + l) * K = e ∙ mod-eq-of-lt (lt-of-lt-of-le below (mul-le-mul-right P d)) in
     (is, subst (λ (x : ℕ). x < m * P) (sym is) below)
 
+pub high-le-shifted : (P K h l h′ l′ : ℕ) → l′ < P → h′ * P + l′ ≡ (h * P + l) * K → h * K ≤ h′
+high-le-shifted P K h l h′ l′ b e = high-le P h′ l′ (h * K) b (omega arith)
+
 -- by less than a digit
 module _ (P K Q : ℕ) (e : K * Q ≡ P) (k : 0 < K) (q : 0 < Q) where
   base-positive : 0 < P
@@ -38,6 +41,10 @@ module _ (P K Q : ℕ) (e : K * Q ≡ P) (k : 0 < K) (q : 0 < Q) where
 
   split : (x : ℕ) → x / Q * P + x % Q * K ≡ x * K
   split x = omega (arith, ap (λ (y : ℕ). x / Q * y) e, ap (λ (y : ℕ). y * K) (div-add-mod' x Q))
+
+  -- a digit that K leaves in its place is below Q
+  pub room : (h : ℕ) → h * K < P → (h + 1) * K ≤ P
+  room h b = omega (arith, e, mul-le-mul-right K (lt-of-mul-lt-mul-right K {m = h} {n = Q} (omega arith)))
 
   -- what stays of x * K in its digit, and what crosses
   stays : (x : ℕ) → x * K % P ≡ x % Q * K

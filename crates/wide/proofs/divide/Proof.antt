@@ -1,7 +1,9 @@
-use mathlib.Core.Path.{sym, _∙_}
-use Prim.Native.Nat.{_+_, _*_, _/_, _%_, _^_}
+use mathlib.Core.Path.{_≡_, sym, ap, _∙_}
+use Prim.Native.Nat.{ℕ, _+_, _*_, _/_, _^_}
+use native.Mathlib.Nat.{mod-lt}
 use native.Mathlib.Omega.{arith}
 use Rattle.wide.specs.Value.{value, quotient-by-zero}
+use Rattle.wide.proofs.Estimates.{pair-quotient}
 use borrow.Author.Needs.{needs}
 use Rattle.wide.proofs.divide.Statement.{statement}
 use Rattle.wide.proofs.divide.Tie as tie
@@ -28,12 +30,17 @@ rem-t8 : tie.Need-rem-t8
 rem-t8 c = search needs
 
 by-word-requires : tie.Need-by-word-requires
-by-word-requires c κs = search needs
+by-word-requires c κs = mod-lt (c .before .before .before .before .before .args .n .hi) (omega arith)
 
 returns-3 : tie.Need-returns-3
 returns-3 c =
-    let s = c .before .before .before .before .before .before in
-    ?
+    let e = c .before .before .before .before in
+    let n = e .before .before .args .n in
+    let d = e .before .before .args .d in
+    let v = d .lo in
+    let is : v ≡ value d = omega (arith, e .if1 .left) in
+    ap (λ (x : ℕ). n .hi / v * 2 ^ 64 + x) (c .by-word .ensures) ∙ pair-quotient (2 ^ 64) (n .hi) (n .lo) v (omega arith)
+    ∙ ap (λ (x : ℕ). value n / x) is
 
 pub divide-spec : {M : Type 1} → statement M
 divide-spec =
