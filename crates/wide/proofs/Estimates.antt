@@ -1,7 +1,7 @@
 -- One digit of a long division in base B: the quotient of u * B + l by v₁ * B + v₀, from an estimate q that leaves r of u by v₁ alone. Assumes nothing.
 use mathlib.Core.Path.{_≡_, sym, ap, _∙_, subst}
-use Prim.Native.Nat.{ℕ, _+_, _*_, _-_, _/_, _%_, _^_, _≤_, _<_}
-use native.Mathlib.Nat.{mul-le-mul-right, mul-le-mul-left, lt-of-mul-lt-mul-left, lt-of-mul-lt-mul-right, div-add-mod', mul-add-div-right, mod-add-mod, add-mod-right, mod-eq-of-lt}
+use Prim.Native.Nat.{ℕ, _+_, _*_, _-_, _/_, _%_, _≤_, _<_}
+use native.Mathlib.Nat.{le-trans, le-add-right, mul-le-mul, mul-le-mul-right, lt-of-mul-lt-mul-left, lt-of-mul-lt-mul-right, div-add-mod', mul-add-div-right, mod-add-mod, add-mod-right, mod-eq-of-lt}
 use native.Mathlib.Omega.{arith}
 use lib.Arith.{digits-div}
 
@@ -18,6 +18,10 @@ pair-quotient P h l v p =
 -- a quotient by a number above u is one digit
 pub digit-lt : (B u l v q : ℕ) → u < v → l < B → q * v ≤ u * B + l → q < B
 digit-lt B u l v q h k p = lt-of-mul-lt-mul-left v (omega (arith, mul-le-mul-right B h))
+
+-- a product of q by a digit is below a remainder that is no less than q
+pub product-le : (B q v₀ r l : ℕ) → q ≤ r → v₀ ≤ B → q * v₀ ≤ r * B + l
+product-le B q v₀ r l h k = le-trans (mul-le-mul h k) (le-add-right (r * B) l)
 
 -- a difference below M, from its sum with p modulo M
 pub difference : (M n p x : ℕ) → x < M → p ≤ M → p ≤ n → n - p < M → (x + p) % M ≡ n % M → x ≡ n - p

@@ -1,7 +1,7 @@
 -- A pair h * P + l times K, where K * Q is the base P: what a digit has from Q on crosses into the next. Assumes nothing.
 use mathlib.Core.Path.{_≡_, sym, ap, _∙_, subst}
 use Prim.Native.Nat.{ℕ, _+_, _*_, _-_, _/_, _%_, _^_, _≤_, _<_}
-use native.Mathlib.Nat.{lt-of-lt-of-le, lt-of-mul-lt-mul-right, mul-one, mul-mod-left, sub-add-cancel, mul-le-mul-right, mul-lt-mul-of-pos-right, mod-eq-of-lt, div-lt-iff-lt-mul, div-add-mod', mod-lt}
+use native.Mathlib.Nat.{lt-of-lt-of-le, lt-of-mul-lt-mul-right, mul-one, mul-mod-left, mul-le-mul-right, mul-lt-mul-of-pos-right, mod-eq-of-lt, div-lt-iff-lt-mul, div-add-mod', mod-lt}
 use native.Mathlib.Omega.{arith}
 use lib.Arith.{digits-lt, digits-mod, digits-div}
 use lib.Pow.{pow-add}
@@ -63,10 +63,11 @@ module _ (P K Q : ℕ) (e : K * Q ≡ P) (k : 0 < K) (q : 0 < Q) where
 
     whole : (h * P + l) * K ≡ h / Q * (P * P) + ((h * K % P + l / Q) * P + l * K % P)
     whole =
-        omega
-        (arith,
-        ap (λ (x : ℕ). x * P) (ap (λ (x : ℕ). h / Q * P + x) (stays h) ∙ split h),
-        ap (λ (x : ℕ). l / Q * P + x) (stays l) ∙ split l)
+        omega (
+          arith,
+          ap (λ (x : ℕ). x * P) (ap (λ (x : ℕ). h / Q * P + x) (stays h) ∙ split h),
+          ap (λ (x : ℕ). l / Q * P + x) (stays l) ∙ split l,
+        )
 
     pub shifted : (h * K % P + l / Q) * P + l * K % P ≡ (h * P + l) * K % (P * P)
     shifted =

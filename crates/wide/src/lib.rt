@@ -81,7 +81,7 @@ pub fn less(a: Wide, b: Wide) -> bool
     a.lo < b.lo
 }
 
-// The shift that brings the top bit of v to the top of the word.
+// The shift that brings the highest bit of v to the top of the word.
 fn top_shift(v: u64) -> u32
     requires { ⌜ 0 < v ⌝ }
     ensures { λ r. ⌜ (r < 64) × (2 ^ 63 ≤ v * 2 ^ r) × (v * 2 ^ r < 2 ^ 64) ⌝ }
@@ -94,7 +94,8 @@ struct Division {
     remainder: u64,
 }
 
-// Whether q times v0 is above the remainder r with the next digit l.
+// Whether the estimate q is too large. One of more than a digit is, so that every product is of
+// two digits.
 fn too_large(q: u64, v0: u32, r: u64, l: u32) -> bool
     requires { ⌜ (2 ^ 32 ≤ q → r * 2 ^ 32 + l < q * v0) ⌝ }
     ensures { λ t. ⌜ t ≡ ltb (r * 2 ^ 32 + l) (q * v0) ⌝ }
@@ -108,8 +109,8 @@ fn too_large(q: u64, v0: u32, r: u64, l: u32) -> bool
     r * 0x1_0000_0000 + (l as u64) < half_product(q as u32, v0)
 }
 
-// One digit of a quotient in base 2^32. The first estimate is the quotient by the divisor's high
-// digit v1. The divisor's top bit is set, so the estimate is at most two too large.
+// One digit of a quotient in base 2^32, estimated by the high digit of v. The top bit of v is set,
+// so the estimate is at most two too large.
 fn digit(u: u64, l: u32, v: u64) -> Division
     requires { ⌜ (2 ^ 63 ≤ v) × (u < v) ⌝ }
     ensures { λ r. ⌜ (r .quotient * v + r .remainder ≡ u * 2 ^ 32 + l) × (r .remainder < v) ⌝ }
@@ -123,13 +124,14 @@ fn digit(u: u64, l: u32, v: u64) -> Division
         r += v1;
     }
     let p = half_product(q as u32, v0);
+    // The shift can lose bits of r, but the difference is below 2^64.
     Division {
         quotient: q,
         remainder: std::num::wrapping_sub_u64((r << 32) + l as u64, p),
     }
 }
 
-// The quotient of a pair by a word whose top bit is set, two digits.
+// A pair by a word whose top bit is set, where the quotient is one word.
 fn two_digits(n: Wide, v: u64) -> Division
     requires { ⌜ (2 ^ 63 ≤ v) × (n .hi < v) ⌝ }
     ensures { λ r. ⌜ (r .quotient * v + r .remainder ≡ value n) × (r .remainder < v) ⌝ }
@@ -142,7 +144,7 @@ fn two_digits(n: Wide, v: u64) -> Division
     }
 }
 
-// The quotient of a pair by a word, where it is one word.
+// A pair by a word, where the quotient is one word.
 fn by_word(n: Wide, v: u64) -> u64
     requires { ⌜ n .hi < v ⌝ }
     ensures { λ r. ⌜ r ≡ value n / v ⌝ }
@@ -153,7 +155,8 @@ fn by_word(n: Wide, v: u64) -> u64
     d.quotient
 }
 
-// The quotient from the estimate q that leaves r of the high words.
+// Three words by a pair, from the estimate that divides the upper two by d.hi alone. A remainder
+// of more than a word shows that the estimate is right.
 fn corrected(estimate: Division, l: u64, d: Wide) -> u64
     requires { ⌜ estimate .remainder < d .hi ⌝ }
     ensures { λ t. ⌜ t ≡ ((estimate .quotient * d .hi + estimate .remainder) * 2 ^ 64 + l) / value d ⌝ }
@@ -170,7 +173,8 @@ fn corrected(estimate: Division, l: u64, d: Wide) -> u64
     q
 }
 
-// The quotient of two pairs, where it is one word.
+// A pair by a divisor of two words. Shifted as far as the divisor, n has the three words top.hi,
+// m.hi and m.lo.
 fn by_pair(n: Wide, d: Wide) -> u64
     requires { ⌜ 0 < d .hi ⌝ }
     ensures { λ r. ⌜ r ≡ value n / value d ⌝ }
@@ -178,9 +182,15 @@ fn by_pair(n: Wide, d: Wide) -> u64
     let s = top_shift(d.hi);
     let v = shift_left(d, s);
     let m = shift_left(n, s);
-    let t = shift_left(Wide { hi: 0, lo: n.hi }, s);
-    let e = two_digits(Wide { hi: t.hi, lo: m.hi }, v.hi);
-    corrected(e, m.lo, v)
+    let top = shift_left(Wide { hi: 0, lo: n.hi }, s);
+    let estimate = two_digits(
+        Wide {
+            hi: top.hi,
+            lo: m.hi,
+        },
+        v.hi,
+    );
+    corrected(estimate, m.lo, v)
 }
 
 // The floor of a quotient; by 0, 0.
@@ -188,7 +198,10 @@ pub fn divide(n: Wide, d: Wide) -> Wide
     ensures { λ r. ⌜ value r ≡ value n / value d ⌝ }
 {
     if d.hi != 0 {
-        return Wide { hi: 0, lo: by_pair(n, d) };
+        return Wide {
+            hi: 0,
+            lo: by_pair(n, d),
+        };
     }
     let v = d.lo;
     if v == 0 {
@@ -196,6 +209,12 @@ pub fn divide(n: Wide, d: Wide) -> Wide
     }
     Wide {
         hi: n.hi / v,
-        lo: by_word(Wide { hi: n.hi % v, lo: n.lo }, v),
+        lo: by_word(
+            Wide {
+                hi: n.hi % v,
+                lo: n.lo,
+            },
+            v,
+        ),
     }
 }

@@ -11,12 +11,6 @@ use Rattle.wide.proofs.Pairs.{high-lt}
 use Rattle.wide.proofs.Shifts.{power-split, exact, high-le-shifted, room, three-digits}
 use Rattle.wide.proofs.by_pair.Statement.{statement}
 use Rattle.wide.proofs.by_pair.Tie as tie
-use Rattle.wide.proofs.by_pair.Reads as reads
-use Rattle.wide.proofs.by_pair.Lts as lts
-use Rattle.wide.proofs.corrected.Reads as corrected-reads
-use Rattle.wide.proofs.shift_left.Reads as shift-left-reads
-use Rattle.wide.proofs.top_shift.Reads as top-shift-reads
-use Rattle.wide.proofs.two_digits.Reads as two-digits-reads
 
 top-shift-requires : tie.Need-top-shift-requires
 top-shift-requires c κs = search needs

@@ -11,11 +11,6 @@ use Rattle.wide.proofs.Shifts.{exact}
 use Rattle.wide.proofs.Estimates.{quotient-is}
 use Rattle.wide.proofs.by_word.Statement.{statement}
 use Rattle.wide.proofs.by_word.Tie as tie
-use Rattle.wide.proofs.by_word.Reads as reads
-use Rattle.wide.proofs.by_word.Lts as lts
-use Rattle.wide.proofs.shift_left.Reads as shift-left-reads
-use Rattle.wide.proofs.top_shift.Reads as top-shift-reads
-use Rattle.wide.proofs.two_digits.Reads as two-digits-reads
 
 top-shift-requires : tie.Need-top-shift-requires
 top-shift-requires c κs = search needs

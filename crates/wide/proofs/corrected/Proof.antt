@@ -1,19 +1,13 @@
 -- `wide::corrected` meets its contract. Each turn takes one off an estimate that is too large; where the remainder leaves the word, the estimate is right. The measure is the estimate.
 -- Assumes nothing.
-use mathlib.Core.Path.{_≡_, refl, sym, _∙_, subst}
-use Prim.Native.Nat.{ℕ, _+_, _*_, _-_, _/_, _^_, _≤_, _<_}
-use native.Mathlib.Nat.{le-trans, le-add-right, mul-le-mul}
+use mathlib.Core.Path.{refl, sym, _∙_, subst}
+use Prim.Native.Nat.{ℕ, _+_, _*_, _-_, _^_, _≤_, _<_}
 use native.Mathlib.Omega.{arith}
 use borrow.Author.Needs.{needs}
 use borrow.Author.Tests.{ltb-true, ltb-false}
-use Rattle.wide.specs.Value.{value}
-use Rattle.wide.proofs.Estimates.{Estimate, quotient-is, first, positive, next, right}
+use Rattle.wide.proofs.Estimates.{Estimate, quotient-is, product-le, first, positive, next, right}
 use Rattle.wide.proofs.corrected.Statement.{statement}
 use Rattle.wide.proofs.corrected.Tie as tie
-use Rattle.wide.proofs.corrected.Reads as reads
-use Rattle.wide.proofs.corrected.Lts as lts
-use Rattle.wide.proofs.less.Reads as less-reads
-use Rattle.wide.proofs.product.Reads as product-reads
 
 abbrev Inv-loop : tie.InvT-loop
 Inv-loop l d q₀ r₀ q r = Estimate (2 ^ 64) (q₀ * d .hi + r₀) l (d .hi) (d .lo) q r × (q < 2 ^ 64) × (r < 2 ^ 64)
@@ -64,7 +58,7 @@ returns c =
     let i = t .before .before .before in
     let s = i .before in
     let w = right (2 ^ 64) (high s) (s .args .l) (s .args .d .hi) (s .args .d .lo) (i .loop .q - 1) (i .loop .r + s .args .d .hi) (again t)
-    (le-trans (mul-le-mul {n₁ = i .loop .q - 1} {m₁ = s .args .d .lo} {n₂ = i .loop .r + s .args .d .hi} {m₂ = 2 ^ 64} (omega arith) (search needs)) (le-add-right _ _)) in
+    (product-le (2 ^ 64) (i .loop .q - 1) (s .args .d .lo) (i .loop .r + s .args .d .hi) (s .args .l) (omega arith) (search needs)) in
     quotient-is _ _ _ _ (w .0) (w .1)
 
 add-r : tie.Need-add-r Inv-loop μ-loop

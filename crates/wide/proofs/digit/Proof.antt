@@ -9,11 +9,6 @@ use borrow.Author.Tests.{ltb-true, ltb-false}
 use Rattle.wide.proofs.Estimates.{Estimate, digit-lt, difference, first, positive, next, right, long}
 use Rattle.wide.proofs.digit.Statement.{statement}
 use Rattle.wide.proofs.digit.Tie as tie
-use Rattle.wide.proofs.digit.Reads as reads
-use Rattle.wide.proofs.digit.Lts as lts
-use Rattle.std.proofs.num.wrapping_sub_u64.Reads as wrapping-sub-u64-reads
-use Rattle.wide.proofs.half_product.Reads as half-product-reads
-use Rattle.wide.proofs.too_large.Reads as too-large-reads
 
 abbrev Inv-loop : tie.InvT-loop
 Inv-loop u l v v1 v0 q₀ r₀ q r = Estimate (2 ^ 32) u l v1 v0 q r

@@ -7,10 +7,6 @@ use Rattle.wide.proofs.Estimates.{pair-quotient}
 use borrow.Author.Needs.{needs}
 use Rattle.wide.proofs.divide.Statement.{statement}
 use Rattle.wide.proofs.divide.Tie as tie
-use Rattle.wide.proofs.divide.Reads as reads
-use Rattle.wide.proofs.divide.Lts as lts
-use Rattle.wide.proofs.by_pair.Reads as by-pair-reads
-use Rattle.wide.proofs.by_word.Reads as by-word-reads
 
 by-pair-requires : tie.Need-by-pair-requires
 by-pair-requires c κs = search needs

@@ -1,13 +1,13 @@
-use native.Mathlib.Nat.{add-zero}
-use native.Mathlib.Omega.{arith}
 use mathlib.Core.Path.{refl}
+use Prim.Native.Nat.{_*_}
+use native.Mathlib.Omega.{arith}
 use borrow.Author.Needs.{needs}
 use Rattle.wide.proofs.Columns.{column-fits}
 use Rattle.wide.proofs.half_product.Statement.{statement}
 use Rattle.wide.proofs.half_product.Tie as tie
 
 mul-result : tie.Need-mul-result
-mul-result c = omega (arith, column-fits (c .args .a) (c .args .b) _ 0 refl (c .fits .a .fits) (c .fits .b .fits) (omega arith))
+mul-result c = omega (arith, column-fits (c .args .a) (c .args .b) (c .args .a * c .args .b) 0 refl (c .fits .a .fits) (c .fits .b .fits) (omega arith))
 
 returns : tie.Need-returns
 returns c = search needs

@@ -1,14 +1,10 @@
 -- `wide::product` meets its contract: the high word with its carries is below 2 ^ 64 because the whole product is below 2 ^ 128. Assumes nothing.
-use mathlib.Core.Path.{_≡_}
-use Prim.Native.Nat.{ℕ, _+_, _*_, _/_, _%_, _^_, _<_}
+use Prim.Native.Nat.{_+_, _/_, _%_, _^_, _<_}
 use native.Mathlib.Omega.{arith}
 use borrow.Author.Needs.{needs}
 use Rattle.wide.proofs.Columns.{column-fits, product-is, high-fits}
 use Rattle.wide.proofs.product.Statement.{statement}
 use Rattle.wide.proofs.product.Tie as tie
-use Rattle.wide.proofs.product.Reads as reads
-use Rattle.wide.proofs.product.Lts as lts
-use Rattle.wide.proofs.half_product.Reads as half-product-reads
 
 cast-a0 : tie.Need-cast-a0
 cast-a0 c = search needs

@@ -8,8 +8,6 @@ use Rattle.wide.proofs.Shifts.{power-split, by-nothing, crossing-fits, 
 use borrow.Author.Needs.{needs}
 use Rattle.wide.proofs.shift_left.Statement.{statement}
 use Rattle.wide.proofs.shift_left.Tie as tie
-use Rattle.wide.proofs.shift_left.Reads as reads
-use Rattle.wide.proofs.shift_left.Lts as lts
 
 returns : tie.Need-returns
 returns c =

@@ -1,15 +1,12 @@
 use mathlib.Core.Path.{sym, ap}
 use Prim.Native.Nat.{_+_, _*_, _^_}
-use native.Mathlib.Nat.{le-trans, le-add-right, mul-le-mul}
 use native.Mathlib.Omega.{arith}
 use lib.Dec.{ltb}
 use borrow.Author.Tests.{lt-ltb, le-ltb}
 use borrow.Author.Needs.{needs}
+use Rattle.wide.proofs.Estimates.{product-le}
 use Rattle.wide.proofs.too_large.Statement.{statement}
 use Rattle.wide.proofs.too_large.Tie as tie
-use Rattle.wide.proofs.too_large.Reads as reads
-use Rattle.wide.proofs.too_large.Lts as lts
-use Rattle.wide.proofs.half_product.Reads as half-product-reads
 
 returns : tie.Need-returns
 returns c = let s = c .before in sym (lt-ltb _ _ (s .pre (c .if1 .taken)))
@@ -17,7 +14,7 @@ returns c = let s = c .before in sym (lt-ltb _ _ (s .pre (c .if1 .taken)))
 returns-2 : tie.Need-returns-2
 returns-2 c =
     let s = c .before .before in
-    sym (le-ltb _ _ (le-trans (mul-le-mul {n₁ = s .args .q} {m₁ = s .args .v0} {n₂ = s .args .r} {m₂ = 2 ^ 32} (omega arith) (omega arith)) (le-add-right _ _)))
+    sym (le-ltb _ _ (product-le (2 ^ 32) (s .args .q) (s .args .v0) (s .args .r) (s .args .l) (omega arith) (omega arith)))
 
 mul-result : tie.Need-mul-result
 mul-result c = search needs

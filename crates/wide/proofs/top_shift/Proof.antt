@@ -1,5 +1,5 @@
 -- `wide::top_shift` meets its contract: v is not 0, so it has a highest bit k, and k + 1 with the leading zeros is 64. Assumes nothing.
-use mathlib.Core.Path.{_≡_, sym, _∙_, subst}
+use mathlib.Core.Path.{_≡_, subst}
 use Prim.Native.Nat.{ℕ, suc, _+_, _*_, _^_, _≤_, _<_}
 use native.Mathlib.Nat.{le-trans, le-of-eq, mul-le-mul-right}
 use native.Mathlib.Omega.{arith}

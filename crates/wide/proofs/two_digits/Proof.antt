@@ -4,9 +4,6 @@ use Rattle.wide.proofs.Estimates.{digit-lt}
 use borrow.Author.Needs.{needs}
 use Rattle.wide.proofs.two_digits.Statement.{statement}
 use Rattle.wide.proofs.two_digits.Tie as tie
-use Rattle.wide.proofs.two_digits.Reads as reads
-use Rattle.wide.proofs.two_digits.Lts as lts
-use Rattle.wide.proofs.digit.Reads as digit-reads
 
 cast-digit : tie.Need-cast-digit
 cast-digit c = search needs
