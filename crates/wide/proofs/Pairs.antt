@@ -1,14 +1,11 @@
 -- Numbers of two digits h and l, h * P + l, in any base P. Assumes nothing.
 use mathlib.Core.Path.{_≡_, sym, ap, _∙_, subst}
 use Prim.Native.Nat.{ℕ, _+_, _*_, _/_, _%_, _≤_, _<_}
-use native.Mathlib.Nat.{le-of-lt, lt-of-le-of-lt, mul-le-mul-left, mul-le-mul-right, mul-lt-mul-of-pos-right, lt-of-mul-lt-mul-right, div-add-mod', mod-lt}
+use native.Mathlib.Nat.{mul-le-mul-right, lt-of-mul-lt-mul-right, div-add-mod', mod-lt}
 use native.Mathlib.Omega.{arith}
 use lib.Arith.{digits-lt, digits-mod}
 
 -- ---- orders
-
-pub product-lt : (P a b : ℕ) → a < P → b < P → a * b < P * P
-product-lt P a b h k = lt-of-le-of-lt (mul-le-mul-left a (le-of-lt k)) (mul-lt-mul-of-pos-right h (omega arith))
 
 pub pair-lt : (P h l h′ l′ : ℕ) → h < h′ → l < P → h * P + l < h′ * P + l′
 pair-lt P h l h′ l′ p q = omega (arith, mul-le-mul-right P p)

@@ -89,13 +89,14 @@ fn top_shift(v: u64) -> u32
     u64::leading_zeros(v)
 }
 
+// A quotient with its remainder.
 struct Division {
     quotient: u64,
     remainder: u64,
 }
 
-// Whether the estimate q is too large. One of more than a digit is, so that every product is of
-// two digits.
+// Whether the estimate q of a digit is too large. An estimate of more than a digit is, so no
+// product is of more than two digits.
 fn too_large(q: u64, v0: u32, r: u64, l: u32) -> bool
     requires { ⌜ (2 ^ 32 ≤ q → r * 2 ^ 32 + l < q * v0) ⌝ }
     ensures { λ t. ⌜ t ≡ ltb (r * 2 ^ 32 + l) (q * v0) ⌝ }
@@ -109,8 +110,8 @@ fn too_large(q: u64, v0: u32, r: u64, l: u32) -> bool
     r * 0x1_0000_0000 + (l as u64) < half_product(q as u32, v0)
 }
 
-// One digit of a quotient in base 2^32, estimated by the high digit of v. The top bit of v is set,
-// so the estimate is at most two too large.
+// One digit of a quotient in base 2^32, that of u and the next digit l by v. The top bit of v is
+// set, so the estimate by the high digit of v is at most two too large.
 fn digit(u: u64, l: u32, v: u64) -> Division
     requires { ⌜ (2 ^ 63 ≤ v) × (u < v) ⌝ }
     ensures { λ r. ⌜ (r .quotient * v + r .remainder ≡ u * 2 ^ 32 + l) × (r .remainder < v) ⌝ }
@@ -155,8 +156,8 @@ fn by_word(n: Wide, v: u64) -> u64
     d.quotient
 }
 
-// Three words by a pair, from the estimate that divides the upper two by d.hi alone. A remainder
-// of more than a word shows that the estimate is right.
+// Three words by a pair, from the quotient of the upper two by d.hi. Where the remainder leaves
+// the word the estimate is right.
 fn corrected(estimate: Division, l: u64, d: Wide) -> u64
     requires { ⌜ estimate .remainder < d .hi ⌝ }
     ensures { λ t. ⌜ t ≡ ((estimate .quotient * d .hi + estimate .remainder) * 2 ^ 64 + l) / value d ⌝ }
@@ -173,8 +174,8 @@ fn corrected(estimate: Division, l: u64, d: Wide) -> u64
     q
 }
 
-// A pair by a divisor of two words. Shifted as far as the divisor, n has the three words top.hi,
-// m.hi and m.lo.
+// A pair by a divisor of two words. Shifted as the divisor is, n has three words: top.hi, m.hi and
+// m.lo.
 fn by_pair(n: Wide, d: Wide) -> u64
     requires { ⌜ 0 < d .hi ⌝ }
     ensures { λ r. ⌜ r ≡ value n / value d ⌝ }
@@ -183,13 +184,11 @@ fn by_pair(n: Wide, d: Wide) -> u64
     let v = shift_left(d, s);
     let m = shift_left(n, s);
     let top = shift_left(Wide { hi: 0, lo: n.hi }, s);
-    let estimate = two_digits(
-        Wide {
-            hi: top.hi,
-            lo: m.hi,
-        },
-        v.hi,
-    );
+    let upper = Wide {
+        hi: top.hi,
+        lo: m.hi,
+    };
+    let estimate = two_digits(upper, v.hi);
     corrected(estimate, m.lo, v)
 }
 
@@ -207,14 +206,12 @@ pub fn divide(n: Wide, d: Wide) -> Wide
     if v == 0 {
         return Wide { hi: 0, lo: 0 };
     }
+    let rest = Wide {
+        hi: n.hi % v,
+        lo: n.lo,
+    };
     Wide {
         hi: n.hi / v,
-        lo: by_word(
-            Wide {
-                hi: n.hi % v,
-                lo: n.lo,
-            },
-            v,
-        ),
+        lo: by_word(rest, v),
     }
 }

@@ -19,11 +19,11 @@ returns-2 c =
     let s = c .before .before .before in
     sym ((λ i. value (s .args .n) / (c .before .if1 .left i * 2 ^ 64 + c .if2 .taken i)) ∙ quotient-by-zero (value (s .args .n)))
 
-div-t6 : tie.Need-div-t6
-div-t6 c = search needs
+rem-t7 : tie.Need-rem-t7
+rem-t7 c = search needs
 
-rem-t8 : tie.Need-rem-t8
-rem-t8 c = search needs
+div-t7 : tie.Need-div-t7
+div-t7 c = search needs
 
 by-word-requires : tie.Need-by-word-requires
 by-word-requires c κs = mod-lt (c .before .before .before .before .before .args .n .hi) (omega arith)
@@ -41,4 +41,4 @@ returns-3 c =
 pub divide-spec : {M : Type 1} → statement M
 divide-spec =
     tie.close
-    (tie.spec by-pair-requires returns returns-2 div-t6 rem-t8 by-word-requires returns-3)
+    (tie.spec by-pair-requires returns returns-2 rem-t7 div-t7 by-word-requires returns-3)

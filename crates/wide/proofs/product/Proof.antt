@@ -1,8 +1,7 @@
 -- `wide::product` meets its contract: the high word with its carries is below 2 ^ 64 because the whole product is below 2 ^ 128. Assumes nothing.
-use Prim.Native.Nat.{_+_, _/_, _%_, _^_, _<_}
 use native.Mathlib.Omega.{arith}
 use borrow.Author.Needs.{needs}
-use Rattle.wide.proofs.Columns.{column-fits, product-is, high-fits}
+use Rattle.wide.proofs.Columns.{digits-le, product-is}
 use Rattle.wide.proofs.product.Statement.{statement}
 use Rattle.wide.proofs.product.Tie as tie
 
@@ -25,35 +24,26 @@ half-product-requires-2 : tie.Need-half-product-requires-2
 half-product-requires-2 c κs = search needs
 
 add-left : tie.Need-add-left
-add-left c =
-    let s = c .before .before in
-    record { fits = column-fits (s .args .a / 2 ^ 32) (s .args .b % 2 ^ 32) (c .half-product2 .result) (c .before .half-product .result / 2 ^ 32) (c .half-product2 .ensures) (omega arith) (omega arith) (omega arith) }
+add-left c = let u = digits-le _ _ _ (c .half-product2 .ensures) (omega arith) (omega arith) in omega arith
 
 half-product-requires-3 : tie.Need-half-product-requires-3
 half-product-requires-3 c κs = search needs
 
 add-cross : tie.Need-add-cross
-add-cross c =
-    let s = c .before .before .before in
-    record { fits = column-fits (s .args .a % 2 ^ 32) (s .args .b / 2 ^ 32) (c .half-product3 .result) _ (c .half-product3 .ensures) (omega arith) (omega arith) (omega arith) }
+add-cross c = let v = digits-le _ _ _ (c .half-product3 .ensures) (omega arith) (omega arith) in omega arith
 
 half-product-requires-4 : tie.Need-half-product-requires-4
 half-product-requires-4 c κs = search needs
 
--- the high word fits
-high : (c : tie.After-half-product4) → let v = c .before in let u = v .before in let w = u .before in let left = u .half-product2 .result + w .half-product .result / 2 ^ 32 in c .half-product4 .result + left / 2 ^ 32 + (v .half-product3 .result + left % 2 ^ 32) / 2 ^ 32 < 2 ^ 64
-high c =
-    let v = c .before in
-    let u = v .before in
-    let w = u .before in
-    let s = w .before in
-    high-fits (s .args .a) (s .args .b) (w .half-product .result) (u .half-product2 .result) (v .half-product3 .result) (c .half-product4 .result) (w .half-product .ensures) (u .half-product2 .ensures) (v .half-product3 .ensures) (c .half-product4 .ensures) (s .fits .a .fits) (s .fits .b .fits)
-
 add-t12 : tie.Need-add-t12
-add-t12 c = omega (arith, high c)
+add-t12 c = let h = digits-le _ _ _ (c .half-product4 .ensures) (omega arith) (omega arith) in omega arith
 
 add-t14 : tie.Need-add-t14
-add-t14 c = record { fits = high c }
+add-t14 c =
+    let h = digits-le _ _ _ (c .half-product4 .ensures) (omega arith) (omega arith) in
+    let v = digits-le _ _ _ (c .before .half-product3 .ensures) (omega arith) (omega arith) in
+    let u = digits-le _ _ _ (c .before .before .half-product2 .ensures) (omega arith) (omega arith) in
+    omega arith
 
 mul-t16 : tie.Need-mul-t16
 mul-t16 c = search needs

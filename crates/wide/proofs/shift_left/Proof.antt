@@ -29,7 +29,7 @@ shr-t8 c = search needs
 add-t9 : tie.Need-add-t9
 add-t9 c =
     let s = c .before .before .before .before .args in
-    record { fits = crossing-fits (2 ^ 64) (2 ^ s .n) (2 ^ (64 - s .n)) (power-split (s .n) 64 (omega arith)) (pow-pos (s .n)) (pow-pos (64 - s .n)) (s .a .hi) (s .a .lo) (search needs) }
+    record { fits = crossing-fits (2 ^ 64) (2 ^ s .n) (2 ^ (64 - s .n)) (power-split (s .n) 64 (omega arith)) (pow-pos (s .n)) (pow-pos (64 - s .n)) (s .a .hi) _ (search needs) }
 
 shl-t11 : tie.Need-shl-t11
 shl-t11 c = search needs
