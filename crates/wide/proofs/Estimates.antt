@@ -19,7 +19,7 @@ pair-quotient P h l v p =
 pub digit-lt : (B u l v q : ℕ) → u < v → l < B → q * v ≤ u * B + l → q < B
 digit-lt B u l v q h k p = lt-of-mul-lt-mul-left v (omega (arith, mul-le-mul-right B h))
 
--- a product of q by a digit is below a remainder that is no less than q
+-- a remainder of more than a digit makes the estimate right
 pub product-le : (B q v₀ r l : ℕ) → q ≤ r → v₀ ≤ B → q * v₀ ≤ r * B + l
 product-le B q v₀ r l h k = le-trans (mul-le-mul h k) (le-add-right (r * B) l)
 
@@ -30,6 +30,7 @@ difference M n p x h k b d e = sym (again x h) ∙ ap (λ (y : ℕ). (y + (M - p
     again : (z : ℕ) → z < M → ((z + p) % M + (M - p)) % M ≡ z
     again z c = mod-add-mod (z + p) M (M - p) ∙ ap (λ (y : ℕ). y % M) {y = z + M} (omega arith) ∙ add-mod-right z M ∙ mod-eq-of-lt c
 
+-- an estimate that is not below the quotient
 pub record Estimate (B u l v₁ v₀ q r : ℕ) : Type 0 where
   pub sum : q * v₁ + r ≡ u
   pub above : u * B + l < (q + 1) * (v₁ * B + v₀)
@@ -40,7 +41,7 @@ module _ (B u l v₁ v₀ : ℕ) where
   first q r e p h = record { sum = e; above = omega (arith, mul-le-mul-right B p, ap (λ (x : ℕ). x * B) e) }
 
   module _ (q r : ℕ) (i : Estimate B u l v₁ v₀ q r) where
-    -- the estimate is above the quotient exactly where q * v₀ is above r * B + l
+    -- so q is too large exactly where q * v₀ is above r * B + l
     balance : q * (v₁ * B + v₀) + (r * B + l) ≡ u * B + l + q * v₀
     balance = omega (arith, ap (λ (x : ℕ). x * B) (i .sum))
 
@@ -58,6 +59,6 @@ module _ (B u l v₁ v₀ : ℕ) where
     pub right : q * v₀ ≤ r * B + l → (q * (v₁ * B + v₀) + (r * B + l - q * v₀) ≡ u * B + l) × (r * B + l - q * v₀ < v₁ * B + v₀)
     right h = omega (arith, balance, i .above)
 
-    -- an estimate of more than one digit is above a quotient of one digit
+    -- an estimate of more than a digit is above a quotient of one digit
     pub long : u < v₁ * B + v₀ → l < B → B ≤ q → r * B + l < q * v₀
     long h k p = omega (arith, balance, mul-le-mul-right B h, mul-le-mul-right (v₁ * B + v₀) p)

@@ -40,14 +40,14 @@ again c =
     let s = i .before in
     next (2 ^ 64) (high s) (s .args .l) (s .args .d .hi) (s .args .d .lo) (i .loop .q) (i .loop .r) (i .loop .inv .0) (above c)
 
-some : (c : tie.Then1 Inv-loop μ-loop) → 0 < c .before .before .before .loop .q
-some c =
+not-zero : (c : tie.Then1 Inv-loop μ-loop) → 0 < c .before .before .before .loop .q
+not-zero c =
     let i = c .before .before .before in
     let s = i .before in
     positive (2 ^ 64) (high s) (s .args .l) (s .args .d .hi) (s .args .d .lo) (i .loop .q) (i .loop .r) (i .loop .inv .0) (above c)
 
 sub-q : tie.Need-sub-q Inv-loop μ-loop
-sub-q c = some c
+sub-q c = not-zero c
 
 sub-if2 : tie.Need-sub-if2 Inv-loop μ-loop
 sub-if2 c = search needs
@@ -65,7 +65,7 @@ add-r : tie.Need-add-r Inv-loop μ-loop
 add-r c = search needs
 
 loop-less : tie.Need-loop-less Inv-loop μ-loop
-loop-less c = omega (arith, some (c .before .before .before))
+loop-less c = omega (arith, not-zero (c .before .before .before))
 
 loop-again : tie.Need-loop-again Inv-loop μ-loop
 loop-again c = (again (c .before .before .before), search needs, search needs)

@@ -45,20 +45,20 @@ again c =
     let s = i .before .args in
     next (2 ^ 32) (s .u) (s .l) (s .v / 2 ^ 32) (s .v % 2 ^ 32) (i .loop .q) (i .loop .r) (i .loop .inv) (above c)
 
-some : (c : tie.Then1 Inv-loop μ-loop) → 0 < c .before .before .loop .q
-some c =
+not-zero : (c : tie.Then1 Inv-loop μ-loop) → 0 < c .before .before .loop .q
+not-zero c =
     let i = c .before .before in
     let s = i .before .args in
     positive (2 ^ 32) (s .u) (s .l) (s .v / 2 ^ 32) (s .v % 2 ^ 32) (i .loop .q) (i .loop .r) (i .loop .inv) (above c)
 
 sub-q : tie.Need-sub-q Inv-loop μ-loop
-sub-q c = some c
+sub-q c = not-zero c
 
 add-r : tie.Need-add-r Inv-loop μ-loop
 add-r c = omega (arith, again c .sum)
 
 loop-less : tie.Need-loop-less Inv-loop μ-loop
-loop-less c = omega (arith, some c)
+loop-less c = omega (arith, not-zero c)
 
 loop-again : tie.Need-loop-again Inv-loop μ-loop
 loop-again c = again c

@@ -1,10 +1,11 @@
+-- `wide::divide` meets its contract: a divisor of one word leaves a quotient of two words, the high one first. Assumes nothing.
 use mathlib.Core.Path.{_≡_, sym, ap, _∙_}
 use Prim.Native.Nat.{ℕ, _+_, _*_, _/_, _^_}
 use native.Mathlib.Nat.{mod-lt}
 use native.Mathlib.Omega.{arith}
+use borrow.Author.Needs.{needs}
 use Rattle.wide.specs.Value.{value, quotient-by-zero}
 use Rattle.wide.proofs.Estimates.{pair-quotient}
-use borrow.Author.Needs.{needs}
 use Rattle.wide.proofs.divide.Statement.{statement}
 use Rattle.wide.proofs.divide.Tie as tie
 

@@ -1,3 +1,4 @@
+-- `wide::less` meets its contract: the high words decide unless they are equal. Assumes nothing.
 use mathlib.Core.Path.{sym}
 use Prim.Native.Nat.{_^_}
 use native.Mathlib.Nat.{le-of-lt}

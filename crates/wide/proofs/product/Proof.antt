@@ -1,4 +1,4 @@
--- `wide::product` meets its contract: the high word with its carries is below 2 ^ 64 because the whole product is below 2 ^ 128. Assumes nothing.
+-- `wide::product` meets its contract: it is the product by columns, and no column overflows, since a product of two digits leaves room for two digits more. Assumes nothing.
 use native.Mathlib.Omega.{arith}
 use borrow.Author.Needs.{needs}
 use Rattle.wide.proofs.Columns.{digits-le, product-is}

@@ -1,18 +1,19 @@
+-- `wide::shift_left` meets its contract, by a law for each range of the count. Assumes nothing.
 use mathlib.Core.Path.{ap, _∙_}
 use Prim.Native.Nat.{ℕ, _*_, _-_, _%_, _^_}
 use native.Mathlib.Omega.{arith}
 use lib.Arith.{digits-lt}
 use lib.Pow.{pow-pos}
-use Rattle.wide.specs.Value.{value}
-use Rattle.wide.proofs.Shifts.{power-split, by-nothing, crossing-fits, shifted, by-digit, by-all}
 use borrow.Author.Needs.{needs}
+use Rattle.wide.specs.Value.{value}
+use Rattle.wide.proofs.Shifts.{power-split, by-one, crossing-fits, shifted, by-digit, by-modulus}
 use Rattle.wide.proofs.shift_left.Statement.{statement}
 use Rattle.wide.proofs.shift_left.Tie as tie
 
 returns : tie.Need-returns
 returns c =
     let s = c .before .args in
-    by-nothing (2 ^ 128) (value (s .a)) (s .n) (digits-lt {q = s .a .hi} {m = 2 ^ 64} {r = s .a .lo} {c = 2 ^ 64} (search needs) (search needs)) (c .if1 .taken)
+    by-one (2 ^ 128) (value (s .a)) (s .n) (digits-lt {q = s .a .hi} {m = 2 ^ 64} {r = s .a .lo} {c = 2 ^ 64} (search needs) (search needs)) (c .if1 .taken)
 
 shl-t5 : tie.Need-shl-t5
 shl-t5 c = search needs
@@ -53,7 +54,7 @@ returns-3 c =
 returns-4 : tie.Need-returns-4
 returns-4 c =
     let s = c .before .before .before .args in
-    by-all (2 ^ 128) (2 ^ (s .n - 128)) (value (s .a)) ∙ ap (λ (x : ℕ). value (s .a) * x % 2 ^ 128) (power-split 128 (s .n) (c .if3 .left))
+    by-modulus (2 ^ 128) (2 ^ (s .n - 128)) (value (s .a)) ∙ ap (λ (x : ℕ). value (s .a) * x % 2 ^ 128) (power-split 128 (s .n) (c .if3 .left))
 
 pub shift-left-spec : {M : Type 1} → statement M
 shift-left-spec =

@@ -1,3 +1,4 @@
+-- `wide::times` meets its contract: what the product by the high word has above a word is a multiple of 2 ^ 128. Assumes nothing.
 use mathlib.Core.Path.{_∙_, ap}
 use Prim.Native.Nat.{ℕ, _+_, _*_, _^_}
 use lib.Pow.{pow-pos}

@@ -1,3 +1,4 @@
+-- `wide::too_large` meets its contract: a remainder of more than a digit is above every product of two digits. Assumes nothing.
 use mathlib.Core.Path.{sym, ap}
 use Prim.Native.Nat.{_+_, _*_, _^_}
 use native.Mathlib.Omega.{arith}

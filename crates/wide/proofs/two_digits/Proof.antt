@@ -1,7 +1,8 @@
+-- `wide::two_digits` meets its contract: the remainder of the first digit is carried to the second. Assumes nothing.
 use Prim.Native.Nat.{_/_, _%_, _^_, _<_}
 use native.Mathlib.Omega.{arith}
-use Rattle.wide.proofs.Estimates.{digit-lt}
 use borrow.Author.Needs.{needs}
+use Rattle.wide.proofs.Estimates.{digit-lt}
 use Rattle.wide.proofs.two_digits.Statement.{statement}
 use Rattle.wide.proofs.two_digits.Tie as tie
 
