@@ -1,0 +1,5 @@
+-- Laws of natural numbers on which the proofs of this crate stand.
+pub mod Columns
+pub mod Estimates
+pub mod Pairs
+pub mod Shifts
