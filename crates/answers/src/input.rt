@@ -29,17 +29,38 @@ fn next_byte(buf: &mut [u8], c: Cursor) -> Byte {
     let at = c.at;
     if at < c.len {
         if at < buf.len() {
-            let next = Cursor { at: at + 1, len: c.len, ended: false };
-            return Byte { value: buf[at], cursor: next };
+            let next = Cursor {
+                at: at + 1,
+                len: c.len,
+                ended: false,
+            };
+            return Byte {
+                value: buf[at],
+                cursor: next,
+            };
         }
     }
     let n = io::read_full(0, buf);
     if 0 < n {
-        let next = Cursor { at: 1, len: n, ended: false };
-        return Byte { value: buf[0], cursor: next };
+        let next = Cursor {
+            at: 1,
+            len: n,
+            ended: false,
+        };
+        return Byte {
+            value: buf[0],
+            cursor: next,
+        };
     }
-    let end = Cursor { at: 0, len: 0, ended: true };
-    Byte { value: 10, cursor: end }
+    let end = Cursor {
+        at: 0,
+        len: 0,
+        ended: true,
+    };
+    Byte {
+        value: 10,
+        cursor: end,
+    }
 }
 
 // A number of eight bytes without its first, with one more at its end.
@@ -52,15 +73,27 @@ fn longer(w: Word, b: u8) -> Word {
     let digit = (b % 16) as u64;
     let size = std::num::wrapping_add_u64((w.size % 1_844_674_407_370_955_162) * 10, digit);
     if b == 45 {
-        Word { name: shifted_in(w.name, b), negative: true, size: w.size }
+        Word {
+            name: shifted_in(w.name, b),
+            negative: true,
+            size: w.size,
+        }
     } else {
-        Word { name: shifted_in(w.name, b), negative: w.negative, size: size }
+        Word {
+            name: shifted_in(w.name, b),
+            negative: w.negative,
+            size: size,
+        }
     }
 }
 
 // The next word, of at most 32 bytes, up to a space or the end of its line.
 pub(crate) fn next_word(buf: &mut [u8], c: Cursor) -> Read {
-    let mut w = Word { name: 0, negative: false, size: 0 };
+    let mut w = Word {
+        name: 0,
+        negative: false,
+        size: 0,
+    };
     let mut k = c;
     let mut left: u32 = 32;
     while left > 0 {

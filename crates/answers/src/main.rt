@@ -1,5 +1,42 @@
+// Answers questions as `oracle layers` of tests/oracle does: a line has a name and decimal numbers, its answer is a
+// line of decimal numbers. The file `stdin` has the questions and `stdout` the oracle's answers (tests/make-answers).
 mod input;
 mod operators;
 mod output;
+mod pairs;
+
+use input::Cursor;
+
+// Answers the next question.
+fn question(buf: &mut [u8], c: Cursor) -> Cursor {
+    let named = input::next_word(buf, c);
+    let k = named.cursor;
+    if k.ended {
+        return k;
+    }
+    let w = named.word;
+    let n = w.name;
+    let first = input::next_word(buf, k);
+    if pairs::is_pair(n) {
+        return pairs::answer(buf, n, first);
+    }
+    operators::answer(buf, n, first)
+}
+
 fn main() {
+    let mut space = io::buffer();
+    let buf: &mut [u8] = &mut space;
+    let mut c = Cursor {
+        at: 0,
+        len: 0,
+        ended: false,
+    };
+    let mut turns: u32 = 1_000_000;
+    while turns > 0 {
+        c = question(buf, c);
+        if c.ended {
+            break;
+        }
+        turns -= 1;
+    }
 }

@@ -7,12 +7,7 @@ use crate::input::next_word;
 use crate::output::print16;
 use crate::output::print32;
 use crate::output::print64;
-
-// Whether the name was known, and where the next line begins.
-pub(crate) struct Answered {
-    pub(crate) known: bool,
-    pub(crate) cursor: Cursor,
-}
+use crate::output::unknown;
 
 // The number of a word, or the nearest that fits.
 fn number64(w: Word) -> i64 {
@@ -84,13 +79,12 @@ fn is_shift(n: u64) -> bool {
     n == name(b"shl") || n == name(b"shr")
 }
 
-// A question with two operands or three.
-fn longer(buf: &mut [u8], n: u64, first: Read) -> Answered {
+// A question with two operands or three, of which the first is read.
+fn several(buf: &mut [u8], n: u64, first: Read) -> Cursor {
     let a = first.word;
     let second = next_word(buf, first.cursor);
     let b = second.word;
     let mut end = second.cursor;
-    let mut known = true;
     if is_binary16(n) {
         binary16(n, number16(a), number16(b));
     } else if is_shift(n) {
@@ -102,7 +96,16 @@ fn longer(buf: &mut [u8], n: u64, first: Read) -> Answered {
         print32(basicop::l_mac(number32(a), number16(b), number16(third.word)));
         end = third.cursor;
     } else {
-        known = false;
+        unknown();
     }
-    Answered { known: known, cursor: end }
+    end
+}
+
+// Answers a question, of which the name and the first operand are read.
+pub(crate) fn answer(buf: &mut [u8], n: u64, first: Read) -> Cursor {
+    if is_unary(n) {
+        unary(n, first.word);
+        return first.cursor;
+    }
+    several(buf, n, first)
 }

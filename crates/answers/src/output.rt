@@ -19,3 +19,14 @@ pub(crate) fn print32(x: i32) {
 pub(crate) fn print16(x: i16) {
     print32(x as i32);
 }
+
+pub(crate) fn print_pair(w: wide::Wide) {
+    io::print_decimal(1, w.hi);
+    io::write_all(1, b" ");
+    print64(w.lo);
+}
+
+// The answer to a name that is none of the program's.
+pub(crate) fn unknown() {
+    io::write_all(1, b"?\n");
+}

@@ -1,32 +1,37 @@
+use mathlib.Core.Path.{_≡_, sym, subst}
+use Prim.Native.Nat.{ℕ, _^_, _<_}
+use native.Mathlib.Omega.{arith}
+use lib.IntN.{ℤ, pos, _-ℤ_}
+use mir.Syntax.{w64}
+use mir.Val.{SFits, toZ}
+use mir.Facts.{toZ-ofZ}
 use borrow.Author.Needs.{needs}
+use Rattle.integers.specs.Bound.{mag-abs, within-num, within-sub}
 use Rattle.answers.proofs.operators.number64.Statement.{statement}
 use Rattle.answers.proofs.operators.number64.Tie as tie
-use Rattle.answers.proofs.operators.number64.Reads as reads
-use Rattle.answers.proofs.operators.number64.Lts as lts
 
--- src/operators.rt:20:9
+negative-fits : (n : ℕ) → n < 2 ^ 63 → SFits w64 (pos 0 -ℤ toZ w64 n)
+negative-fits n h =
+    subst (λ (z : ℤ). SFits w64 (pos 0 -ℤ z)) (sym (toZ-ofZ {w = w64} {z = pos n} (record { sfits = h })))
+    (record { sfits = omega (arith, mag-abs (pos 0 -ℤ pos n), within-sub (within-num (pos 0)) (within-num (pos n)) .within) })
+
 returns : tie.Need-returns
-returns c = search signed
+returns c = search needs
 
--- src/operators.rt:20:9
 returns-2 : tie.Need-returns-2
-returns-2 c = search signed
+returns-2 c = search needs
 
--- src/operators.rt:22:13
 cast-n : tie.Need-cast-n
-cast-n c = search signed
+cast-n c = search needs
 
--- src/operators.rt:23:21
 sub-result : tie.Need-sub-result
-sub-result c = search signed
+sub-result c = negative-fits (c .before .before .before .before .args .w .size) (omega arith)
 
--- src/operators.rt:18:1
 returns-3 : tie.Need-returns-3
-returns-3 c = search signed
+returns-3 c = search needs
 
--- src/operators.rt:18:1
 returns-4 : tie.Need-returns-4
-returns-4 c = search signed
+returns-4 c = search needs
 
 pub number64-spec : {M : Type 1} → statement M
 number64-spec = tie.close (tie.spec returns returns-2 cast-n sub-result returns-3 returns-4)

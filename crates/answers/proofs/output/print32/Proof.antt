@@ -1,48 +1,45 @@
-use borrow.Author.Needs.{needs}
+use mathlib.Core.Path.{_≡_, sym, subst}
+use Prim.Native.Nat.{ℕ}
+use native.Mathlib.Omega.{arith}
+use lib.IntN.{natAbs}
+use mir.Syntax.{w64}
+use mir.Val.{Fits}
+use Rattle.integers.specs.Bound.{within-fits}
+use Rattle.integers.specs.Signed.{signed}
+use Rattle.basicop.proofs.Shift.{negative-fits, size-negative, size-nonneg}
 use Rattle.answers.proofs.output.print32.Statement.{statement}
 use Rattle.answers.proofs.output.print32.Tie as tie
-use Rattle.answers.proofs.output.print32.Reads as reads
-use Rattle.answers.proofs.output.print32.Lts as lts
-use Rattle.answers.proofs.output.print64.Reads as print64-reads
-use Rattle.io.proofs.write_all.Reads as write-all-reads
 
--- src/output.rt:10:13
 cast-w : tie.Need-cast-w
 cast-w c = search signed
 
--- src/output.rt:12:26
 slice-aggregate-write-all : tie.Need-slice-aggregate-write-all
 slice-aggregate-write-all c = search signed
 
--- src/output.rt:12:9
 write-all-requires : tie.Need-write-all-requires
 write-all-requires c κs = search signed
 
--- src/output.rt:13:18
+small : (s : tie.Start) (k : ℕ) → k ≡ natAbs (s .args .x) → Fits w64 k
+small s k e = subst (Fits w64) (sym e) (record { fits = omega (arith, within-fits (s .fits .x) .within) })
+
 sub-print64 : tie.Need-sub-print64
-sub-print64 c = search signed
+sub-print64 c = let s = c .before .before .before in negative-fits (s .fits .x)
 
--- src/output.rt:13:17
 cast-print64 : tie.Need-cast-print64
-cast-print64 c = search signed
+cast-print64 c = let s = c .before .before .before in let z = size-negative (s .fits .x) (c .before .before .if1 .taken) in (z .nonneg, small s _ (z .size))
 
--- src/output.rt:13:9
 print64-requires : tie.Need-print64-requires
-print64-requires c κs = search signed
+print64-requires c κs = tt
 
--- src/output.rt:15:17
 cast-print64-2 : tie.Need-cast-print64-2
-cast-print64-2 c = search signed
+cast-print64-2 c = let s = c .before in let z = size-nonneg (s .fits .x) (c .if1 .left) in (z .nonneg, small s _ (z .size))
 
--- src/output.rt:15:9
 print64-requires-2 : tie.Need-print64-requires-2
-print64-requires-2 c κs = search signed
+print64-requires-2 c κs = tt
 
--- src/output.rt:9:1
 returns : tie.Need-returns
 returns c = search signed
 
--- src/output.rt:9:1
 returns-2 : tie.Need-returns-2
 returns-2 c = search signed
 
