@@ -3,7 +3,7 @@ use mathlib.Core.Path.{_≡_, subst}
 use Prim.Native.Nat.{ℕ, _+_, _*_, _-_, _/_, _^_, _≤_, _<_}
 use native.Mathlib.Nat.{mul-le-mul}
 use native.Mathlib.Omega.{arith}
-use Rattle.basicop.specs.Root.{root, IsRoot, root-unique}
+use Rattle.basicop.specs.Root.{root, root-unique}
 
 pub record Between (v r s : ℕ) : Type 0 where
   pub low : r * r ≤ v

@@ -1,5 +1,5 @@
 -- The basic operators of ITU-T G.191 that the decoder calls, in plain arithmetic: a 16-bit or 32-bit result is the nearest number in range.
-use Prim.Native.Nat.{ℕ, suc, _^_}
+use Prim.Native.Nat.{suc, _^_}
 use lib.IntN.{ℤ, pos, negsuc, negℤ, _+ℤ_, _-ℤ_, _*ℤ_}
 use Rattle.integers.specs.Base.{saturated, floorDiv}
 

@@ -1,8 +1,8 @@
 -- What the definitions, promises and invariants of the crates above are made of. Laws of these stand in the other modules.
 use mathlib.Core.Path.{_≡_}
-use mathlib.Core.Bool.{Bool, true, false, cond, _&&_}
+use mathlib.Core.Bool.{Bool, true, cond, _&&_}
 use mathlib.Core.List.{List, [], _∷_, _++_}
-use Prim.Native.Nat.{ℕ, zero, suc, _*_, _≤_, _^_, min}
+use Prim.Native.Nat.{ℕ, zero, suc, _*_, _≤_, min}
 use lib.ListN.{getD, take, length}
 use lib.IntN.{ℤ, pos, negsuc, natAbs, _+ℤ_}
 use lib.Signed.{shrZ, ltZ}

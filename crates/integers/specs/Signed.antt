@@ -14,7 +14,7 @@ use lib.Signed.{mag, shrZ, quotZ, mag-shr}
 use mir.Syntax.{Width, w8, w16, w32, w64, w128}
 use mir.Val.{Val, SFits, hbits, toZ, ofZ}
 use mir.Facts.{sfits-widen, sfits-lit, toZ-ofZ}
-use Rattle.integers.specs.Base.{Within, AllFit, entry}
+use Rattle.integers.specs.Base.{AllFit, entry}
 use Rattle.integers.specs.Natural.{cond-elim}
 use Rattle.integers.specs.Bound.{within-add, within-sub, within-mul, within-fits, fits-within}
 

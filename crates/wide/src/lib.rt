@@ -206,6 +206,12 @@ pub fn divide(n: Wide, d: Wide) -> Wide
     if v == 0 {
         return Wide { hi: 0, lo: 0 };
     }
+    if n.hi == 0 {
+        return Wide {
+            hi: 0,
+            lo: n.lo / v,
+        };
+    }
     let rest = Wide {
         hi: n.hi % v,
         lo: n.lo,

@@ -1,4 +1,3 @@
-use mathlib.Core.Path.{_≡_}
 use Prim.Native.Nat.{_+_, _/_}
 use native.Mathlib.Omega.{arith}
 use Rattle.basicop.proofs.Bisection.{Between, between-start, square-fits, between-upper, between-lower, between-end}

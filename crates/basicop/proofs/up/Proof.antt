@@ -1,6 +1,6 @@
 use mathlib.Core.Path.{_≡_, ap, _∙_, subst}
 use mathlib.Core.Bool.{Bool, true, false}
-use Prim.Native.Nat.{ℕ, _%_, _*_, _^_, _≤_, _<_}
+use Prim.Native.Nat.{_%_, _*_, _^_, _≤_, _<_}
 use native.Mathlib.Nat.{lt-of-lt-of-le}
 use native.Mathlib.Omega.{arith}
 use lib.Dec.{lit<}
