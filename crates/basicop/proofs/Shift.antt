@@ -1,11 +1,11 @@
 -- Laws of the two shifts, for every largest number M.
 use mathlib.Core.Path.{_≡_, refl, sym, ap, _∙_, subst}
-use mathlib.Core.Bool.{Bool, true, false}
+use mathlib.Core.Bool.{true, false}
 use Prim.Native.Nat.{ℕ, zero, suc, _*_, _%_, _^_, _≤_, _<_}
 use native.Mathlib.Nat.{div-eq-of-lt, mod-eq-of-lt, le-trans}
 use native.Mathlib.Omega.{arith}
-use borrow.Author.Tests.{ltb-true, ltb-false}
-use lib.Dec.{T, ltb, lit<}
+use borrow.Author.Tests.{ltb-false}
+use lib.Dec.{T, lit<}
 use lib.Pow.{pow-mono}
 use lib.IntN.{ℤ, pos, negsuc, natAbs, negℤ, _-ℤ_, _*ℤ_}
 use lib.Signed.{mag, ltZ, nonNeg, mag-shr}
@@ -16,31 +16,19 @@ use Rattle.integers.specs.Base.{saturated, floorDiv}
 use Rattle.integers.specs.Bound.{abs-neg}
 use Rattle.integers.specs.Linear.{line, line-neg, line-sub}
 use Rattle.integers.specs.Saturation.{saturated-id}
-use Rattle.integers.specs.Signed.{signed, sub-fits}
+use Rattle.integers.specs.Natural.{none-below-zero}
+use Rattle.integers.specs.Signed.{signed, nonneg, neg-nonneg, sub-fits}
 use Rattle.basicop.specs.Operators.{scaled}
 
--- ---- signs
-
-none-below-zero : {X : Type 0} (n : ℕ) → ltb n 0 ≡ true → X
-none-below-zero n h = absurd (let k : n < 0 = ltb-true n 0 h in let z : ⊥ = omega arith in z)
-
-neg-nonneg : (z : ℤ) → ltZ z (pos 0) ≡ true → T (nonNeg (negℤ z))
-neg-nonneg (pos n) h = none-below-zero n h
-neg-nonneg (negsuc n) h = tt
-
-nonneg-of : (z : ℤ) → ltZ z (pos 0) ≡ false → T (nonNeg z)
-nonneg-of (pos n) h = tt
-nonneg-of (negsuc n) h = absurd (subst T h tt)
+-- ---- the size of a 32-bit number, taken in 64 bits
 
 -- z is not negative and has n's size
 pub record Sized (n z : ℤ) : Type 0 where
-  pub nonneg : T (nonNeg z)
+  pub sign : T (nonNeg z)
   pub size : natAbs z ≡ natAbs n
 
 zero-sub : (z : ℤ) → pos 0 -ℤ z ≡ negℤ z
 zero-sub z = omega (line, line-sub (pos 0) z, line-neg z)
-
--- ---- the size of a 32-bit number, taken in 64 bits
 
 module _ {n : ℤ} (f : SFits w32 n) where
   pub widened : toZ w64 (ofZ w64 (toZ w32 (ofZ w32 n))) ≡ n
@@ -52,14 +40,11 @@ module _ {n : ℤ} (f : SFits w32 n) where
   negative : toZ w64 (ofZ w64 (pos 0 -ℤ toZ w64 (ofZ w64 (toZ w32 (ofZ w32 n))))) ≡ negℤ n
   negative = toZ-ofZ {w = w64} negative-fits ∙ ap (λ (z : ℤ). pos 0 -ℤ z) widened ∙ zero-sub n
 
-  sign : (b : Bool) → ltZ (toZ w64 (ofZ w64 (toZ w32 (ofZ w32 n)))) (pos 0) ≡ b → ltZ n (pos 0) ≡ b
-  sign b h = subst (λ (z : ℤ). ltZ z (pos 0) ≡ b) widened h
-
   pub size-negative : ltZ (toZ w64 (ofZ w64 (toZ w32 (ofZ w32 n)))) (pos 0) ≡ true → Sized n (toZ w64 (ofZ w64 (pos 0 -ℤ toZ w64 (ofZ w64 (toZ w32 (ofZ w32 n))))))
-  size-negative h = record { nonneg = subst (λ (z : ℤ). T (nonNeg z)) (sym negative) (neg-nonneg n (sign true h)); size = ap natAbs negative ∙ abs-neg n }
+  size-negative h = record { sign = subst (λ (z : ℤ). T (nonNeg z)) (sym negative) (neg-nonneg n (subst (λ (z : ℤ). ltZ z (pos 0) ≡ true) widened h)); size = ap natAbs negative ∙ abs-neg n }
 
   pub size-nonneg : ltZ (toZ w64 (ofZ w64 (toZ w32 (ofZ w32 n)))) (pos 0) ≡ false → Sized n (toZ w64 (ofZ w64 (toZ w32 (ofZ w32 n))))
-  size-nonneg h = record { nonneg = subst (λ (z : ℤ). T (nonNeg z)) (sym widened) (nonneg-of n (sign false h)); size = ap natAbs widened }
+  size-nonneg h = record { sign = subst (λ (z : ℤ). T (nonNeg z)) (sym widened) (nonneg n (subst (λ (z : ℤ). ltZ z (pos 0) ≡ false) widened h)); size = ap natAbs widened }
 
 -- ---- powers as the code has them
 
@@ -120,19 +105,19 @@ module _ (M : ℕ) (a : ℤ) (fits : mag a ≤ M) where
   floor-kept : (m : ℕ) → floorDiv a m ≡ saturated M (floorDiv a m)
   floor-kept m = sym (saturated-id M (floorDiv a m) (le-trans (mag-shr a m) fits))
 
-  pub left-down : (n : ℤ) → ltZ n (pos 0) ≡ true → floorDiv a (2 ^ natAbs n) ≡ saturated M (scaled a n)
-  left-down (pos n) h = none-below-zero n h
-  left-down (negsuc n) h = floor-kept (2 ^ suc n)
+  pub shl-down : (n : ℤ) → ltZ n (pos 0) ≡ true → floorDiv a (2 ^ natAbs n) ≡ saturated M (scaled a n)
+  shl-down (pos n) h = none-below-zero n h
+  shl-down (negsuc n) h = floor-kept (2 ^ suc n)
 
-  pub left-up : (n : ℤ) → ltZ n (pos 0) ≡ false → saturated M (a *ℤ pos (2 ^ natAbs n)) ≡ saturated M (scaled a n)
-  left-up (pos n) h = refl
-  left-up (negsuc n) h = absurd (subst T h tt)
+  pub shl-up : (n : ℤ) → ltZ n (pos 0) ≡ false → saturated M (a *ℤ pos (2 ^ natAbs n)) ≡ saturated M (scaled a n)
+  shl-up (pos n) h = refl
+  shl-up (negsuc n) h = absurd (subst T h tt)
 
-  pub right-up : (n : ℤ) → ltZ n (pos 0) ≡ true → saturated M (a *ℤ pos (2 ^ natAbs n)) ≡ saturated M (scaled a (negℤ n))
-  right-up (pos n) h = none-below-zero n h
-  right-up (negsuc n) h = refl
+  pub shr-up : (n : ℤ) → ltZ n (pos 0) ≡ true → saturated M (a *ℤ pos (2 ^ natAbs n)) ≡ saturated M (scaled a (negℤ n))
+  shr-up (pos n) h = none-below-zero n h
+  shr-up (negsuc n) h = refl
 
-  pub right-down : (n : ℤ) → ltZ n (pos 0) ≡ false → floorDiv a (2 ^ natAbs n) ≡ saturated M (scaled a (negℤ n))
-  right-down (pos zero) h = floor-one a ∙ sym (saturated-id M a fits) ∙ ap (saturated M) (sym (times-one a))
-  right-down (pos (suc n)) h = floor-kept (2 ^ suc n)
-  right-down (negsuc n) h = absurd (subst T h tt)
+  pub shr-down : (n : ℤ) → ltZ n (pos 0) ≡ false → floorDiv a (2 ^ natAbs n) ≡ saturated M (scaled a (negℤ n))
+  shr-down (pos zero) h = floor-one a ∙ sym (saturated-id M a fits) ∙ ap (saturated M) (sym (times-one a))
+  shr-down (pos (suc n)) h = floor-kept (2 ^ suc n)
+  shr-down (negsuc n) h = absurd (subst T h tt)

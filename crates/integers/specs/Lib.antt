@@ -6,6 +6,7 @@ pub mod Signed
 pub mod Expression
 pub mod Linear
 pub mod Saturation
+pub mod Limit
 pub mod Sum
 pub mod Fill
 pub mod Lent

@@ -3,6 +3,7 @@ use mathlib.Core.Path.{_≡_, refl, sym}
 use mathlib.Core.Bool.{Bool, true, false, not, cond}
 use mathlib.Core.Logic.{_⊎_, inl, inr}
 use Prim.Native.Nat.{ℕ, _≤_, _<_}
+use native.Mathlib.Omega.{arith}
 use lib.Dec.{T, ltb}
 use borrow.Author.Tests.{ltb-true, ltb-false, lt-ltb, le-ltb}
 
@@ -22,6 +23,9 @@ ltb-same a b m n f g = decided (ltb a b) refl
     decided : (t : Bool) → ltb a b ≡ t → t ≡ ltb m n
     decided true e = sym (lt-ltb m n (f (ltb-true a b e)))
     decided false e = sym (le-ltb m n (g (ltb-false a b e)))
+
+pub none-below-zero : {X : Type 0} (n : ℕ) → ltb n 0 ≡ true → X
+none-below-zero n h = absurd (let k : n < 0 = ltb-true n 0 h in let z : ⊥ = omega arith in z)
 
 -- ---- choices
 

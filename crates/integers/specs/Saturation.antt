@@ -13,6 +13,7 @@ use mir.Val.{SFits, hbits, toZ, ofZ}
 use mir.Facts.{toZ-ofZ}
 use Rattle.integers.specs.Base.{saturated}
 use Rattle.integers.specs.Linear.{distance-le, distance-ge}
+use Rattle.integers.specs.Signed.{ltZ-back-left, ltZ-back-right}
 
 -- ---- the number nearest in range
 
@@ -68,14 +69,14 @@ saturated-fits {w} M z t = record { sfits = lt-of-le-of-lt (saturated-bound M z)
 
 module _ (w w′ : Width) (M : ℕ) (m : T (ltb M (2 ^ hbits w′))) {x : ℤ} (f : SFits w x) where
   pub arm-above : ltZ (pos M) (toZ w (ofZ w x)) ≡ true → pos M ≡ saturated M x
-  arm-above h = sym (saturated-above M x (subst (λ (z : ℤ). ltZ (pos M) z ≡ true) (toZ-ofZ f) h))
+  arm-above h = sym (saturated-above M x (ltZ-back-right (pos M) true f h))
 
   pub arm-below : ltZ (toZ w (ofZ w x)) (negsuc M) ≡ true → negsuc M ≡ saturated M x
-  arm-below h = sym (saturated-below M x (subst (λ (z : ℤ). ltZ z (negsuc M) ≡ true) (toZ-ofZ f) h))
+  arm-below h = sym (saturated-below M x (ltZ-back-left (negsuc M) true f h))
 
   module _ (h : ltZ (pos M) (toZ w (ofZ w x)) ≡ false) (k : ltZ (toZ w (ofZ w x)) (negsuc M) ≡ false) where
     between : mag x ≤ M
-    between = saturated-between M x (subst (λ (z : ℤ). ltZ (pos M) z ≡ false) (toZ-ofZ f) h) (subst (λ (z : ℤ). ltZ z (negsuc M) ≡ false) (toZ-ofZ f) k)
+    between = saturated-between M x (ltZ-back-right (pos M) false f h) (ltZ-back-left (negsuc M) false f k)
 
     pub arm-cast : SFits w′ (toZ w (ofZ w x))
     arm-cast = subst (SFits w′) (sym (toZ-ofZ f)) (record { sfits = lt-of-le-of-lt between (ltb→lt M (2 ^ hbits w′) m) })

@@ -1,5 +1,6 @@
 -- `search signed`: what a signed operation asks of its operands' types, and what is read back from bits.
-use mathlib.Core.Path.{_≡_, _∙_, refl}
+use mathlib.Core.Path.{_≡_, _∙_, refl, subst}
+use mathlib.Core.Bool.{Bool, true, false}
 use mathlib.Core.List.{List, [], _∷_}
 use Prim.Native.Nat.{ℕ, zero, suc, _+_, _-_, _*_, _/_, _^_, _≤_, _<_}
 use native.Mathlib.Nat.{div-le-self, lt-of-le-of-lt, lt-of-lt-of-le, div-lt-iff-lt-mul}
@@ -10,12 +11,12 @@ use denote.Array.{each, inArray}
 use denote.Signed.{SInt}
 use lib.Dec.{T, leb, ltb, leb→le}
 use lib.IntN.{ℤ, pos, negsuc, negℤ, subℕ, _+ℤ_, _-ℤ_, _*ℤ_}
-use lib.Signed.{mag, shrZ, quotZ, mag-shr}
+use lib.Signed.{mag, ltZ, nonNeg, shrZ, quotZ, mag-shr}
 use mir.Syntax.{Width, w8, w16, w32, w64, w128}
 use mir.Val.{Val, SFits, hbits, toZ, ofZ}
 use mir.Facts.{sfits-widen, sfits-lit, toZ-ofZ}
 use Rattle.integers.specs.Base.{AllFit, entry}
-use Rattle.integers.specs.Natural.{cond-elim}
+use Rattle.integers.specs.Natural.{cond-elim, none-below-zero}
 use Rattle.integers.specs.Bound.{within-add, within-sub, within-mul, within-fits, fits-within}
 
 -- ---- bits read back
@@ -27,6 +28,23 @@ read-back w z p = toZ-ofZ {w = w} (record { sfits = p })
 -- of a call's result, with what the call ensures: `back w16 (c .f .ok) e`
 pub back : (w : Width) {r s : ℤ} → mag r < 2 ^ hbits w → r ≡ s → toZ w (ofZ w r) ≡ s
 back w {r} p e = read-back w r p ∙ e
+
+-- a test of what is read back is one of the number
+pub ltZ-back-left : {w : Width} {z : ℤ} (k : ℤ) (b : Bool) → SFits w z → ltZ (toZ w (ofZ w z)) k ≡ b → ltZ z k ≡ b
+ltZ-back-left {w} {z} k b f h = subst (λ (x : ℤ). ltZ x k ≡ b) (toZ-ofZ f) h
+
+pub ltZ-back-right : {w : Width} {z : ℤ} (k : ℤ) (b : Bool) → SFits w z → ltZ k (toZ w (ofZ w z)) ≡ b → ltZ k z ≡ b
+ltZ-back-right {w} {z} k b f h = subst (λ (x : ℤ). ltZ k x ≡ b) (toZ-ofZ f) h
+
+-- ---- signs, as tests and as a cast to an unsigned type has them
+
+pub nonneg : (z : ℤ) → ltZ z (pos 0) ≡ false → T (nonNeg z)
+nonneg (pos n) h = tt
+nonneg (negsuc n) h = absurd (subst T h tt)
+
+pub neg-nonneg : (z : ℤ) → ltZ z (pos 0) ≡ true → T (nonNeg (negℤ z))
+neg-nonneg (pos n) h = none-below-zero n h
+neg-nonneg (negsuc n) h = tt
 
 -- ---- one operation on numbers of narrow types, at a wider one; `search` has the narrow widths from the facts that it finds
 

@@ -1,15 +1,11 @@
-use mathlib.Core.Path.{_≡_, subst}
 use Prim.Native.Nat.{_^_, _≤_, _<_}
 use native.Mathlib.Nat.{lt-of-lt-of-le}
 use native.Mathlib.Omega.{arith}
 use lib.Pow.{pow-mono}
-use lib.IntN.{ℤ, pos}
-use lib.Signed.{mag, ltZ}
-use mir.Syntax.{w16}
-use mir.Val.{toZ, ofZ}
-use mir.Facts.{toZ-ofZ}
-use mathlib.Core.Bool.{Bool, true, false}
-use Rattle.integers.specs.Signed.{signed}
+use lib.IntN.{pos}
+use lib.Signed.{mag}
+use mathlib.Core.Bool.{true, false}
+use Rattle.integers.specs.Signed.{signed, ltZ-back-left}
 use Rattle.basicop.proofs.Shift.{floor-negative, floor-nonneg}
 use Rattle.basicop.proofs.down.Statement.{statement}
 use Rattle.basicop.proofs.down.Tie as tie
@@ -27,18 +23,15 @@ returns c = search signed
 small : (s : tie.Start) → 16 ≤ s .args .n → mag (s .args .a) < 2 ^ s .args .n
 small s h = lt-of-lt-of-le (s .fits .a .sfits) (pow-mono {i = 15} {j = s .args .n} (omega arith))
 
-sign : (s : tie.Start) (b : Bool) → ltZ (toZ w16 (ofZ w16 (s .args .a))) (pos 0) ≡ b → ltZ (s .args .a) (pos 0) ≡ b
-sign s b h = subst (λ (z : ℤ). ltZ z (pos 0) ≡ b) (toZ-ofZ (s .fits .a)) h
-
 returns-2 : tie.Need-returns-2
 returns-2 c =
     let s = c .before .before in
-    floor-negative (s .args .a) (2 ^ s .args .n) (small s (c .before .if1 .left)) (sign s true (c .if2 .taken))
+    floor-negative (s .args .a) (2 ^ s .args .n) (small s (c .before .if1 .left)) (ltZ-back-left (pos 0) true (s .fits .a) (c .if2 .taken))
 
 returns-3 : tie.Need-returns-3
 returns-3 c =
     let s = c .before .before in
-    floor-nonneg (s .args .a) (2 ^ s .args .n) (small s (c .before .if1 .left)) (sign s false (c .if2 .left))
+    floor-nonneg (s .args .a) (2 ^ s .args .n) (small s (c .before .if1 .left)) (ltZ-back-left (pos 0) false (s .fits .a) (c .if2 .left))
 
 pub down-spec : {M : Type 1} → statement M
 down-spec = tie.close (tie.spec cast-result shr-result returns returns-2 returns-3)

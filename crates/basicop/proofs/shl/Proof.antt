@@ -1,16 +1,15 @@
-use mathlib.Core.Path.{_≡_, _∙_, subst}
-use mathlib.Core.Bool.{Bool, true, false}
+use mathlib.Core.Path.{_≡_, _∙_}
+use mathlib.Core.Bool.{true, false}
 use Prim.Native.Nat.{_^_, _≤_}
 use native.Mathlib.Omega.{arith}
 use lib.IntN.{ℤ, pos, natAbs, _*ℤ_}
-use lib.Signed.{mag, ltZ}
-use mir.Syntax.{w16, w32}
-use mir.Val.{toZ, ofZ}
+use lib.Signed.{mag}
+use mir.Syntax.{w16}
 use mir.Facts.{toZ-ofZ}
 use Rattle.integers.specs.Base.{floorDiv}
-use Rattle.integers.specs.Signed.{signed, back}
+use Rattle.integers.specs.Signed.{signed, back, ltZ-back-left}
 use Rattle.basicop.specs.Operators.{word16}
-use Rattle.basicop.proofs.Shift.{left-down, left-up}
+use Rattle.basicop.proofs.Shift.{shl-down, shl-up}
 use Rattle.basicop.proofs.shl.Statement.{statement}
 use Rattle.basicop.proofs.shl.Tie as tie
 
@@ -26,24 +25,20 @@ size-requires-2 c κs = tt
 up-requires : tie.Need-up-requires
 up-requires c κs = tt
 
-module _ (s : tie.Start) where
-  sign : (b : Bool) → ltZ (toZ w32 (ofZ w32 (s .args .n))) (pos 0) ≡ b → ltZ (s .args .n) (pos 0) ≡ b
-  sign b h = subst (λ (z : ℤ). ltZ z (pos 0) ≡ b) (toZ-ofZ (s .fits .n)) h
-
-  small : mag (s .args .a) ≤ 32767
-  small = omega (arith, s .fits .a .sfits)
+small : (s : tie.Start) → mag (s .args .a) ≤ 32767
+small s = omega (arith, s .fits .a .sfits)
 
 returns : tie.Need-returns
 returns c =
     let s = c .before .before .before in
     let k : c .before .size .result ≡ natAbs (s .args .n) = c .before .size .ensures ∙ search signed in
-    back w16 (c .down .ok) (c .down .ensures ∙ (λ i. floorDiv (toZ-ofZ (s .fits .a) i) (2 ^ k i)) ∙ left-down 32767 (s .args .a) (small s) (s .args .n) (sign s true (c .before .before .if1 .taken)))
+    back w16 (c .down .ok) (c .down .ensures ∙ (λ i. floorDiv (toZ-ofZ (s .fits .a) i) (2 ^ k i)) ∙ shl-down 32767 (s .args .a) (small s) (s .args .n) (ltZ-back-left (pos 0) true (s .fits .n) (c .before .before .if1 .taken)))
 
 returns-2 : tie.Need-returns-2
 returns-2 c =
     let s = c .before .before .before in
     let k : c .before .size2 .result ≡ natAbs (s .args .n) = c .before .size2 .ensures ∙ search signed in
-    back w16 (c .up .ok) (c .up .ensures ∙ (λ i. word16 (toZ-ofZ (s .fits .a) i *ℤ pos (2 ^ k i))) ∙ left-up 32767 (s .args .a) (small s) (s .args .n) (sign s false (c .before .before .if1 .left)))
+    back w16 (c .up .ok) (c .up .ensures ∙ (λ i. word16 (toZ-ofZ (s .fits .a) i *ℤ pos (2 ^ k i))) ∙ shl-up 32767 (s .args .a) (small s) (s .args .n) (ltZ-back-left (pos 0) false (s .fits .n) (c .before .before .if1 .left)))
 
 pub shl-spec : {M : Type 1} → statement M
 shl-spec =

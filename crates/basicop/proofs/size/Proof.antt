@@ -20,10 +20,10 @@ small : (s : tie.Start) (k : ℕ) → k ≡ natAbs (s .args .n) → Fits w32 k
 small s k e = subst (Fits w32) (sym e) (record { fits = omega (arith, within-fits (s .fits .n) .within) })
 
 cast-result : tie.Need-cast-result
-cast-result c = let z = size-negative (c .before .fits .n) (c .if1 .taken) in (z .nonneg, small (c .before) _ (z .size))
+cast-result c = let z = size-negative (c .before .fits .n) (c .if1 .taken) in (z .sign, small (c .before) _ (z .size))
 
 cast-result-2 : tie.Need-cast-result-2
-cast-result-2 c = let z = size-nonneg (c .before .fits .n) (c .if1 .left) in (z .nonneg, small (c .before) _ (z .size))
+cast-result-2 c = let z = size-nonneg (c .before .fits .n) (c .if1 .left) in (z .sign, small (c .before) _ (z .size))
 
 returns : tie.Need-returns
 returns c = size-negative (c .before .fits .n) (c .if1 .taken) .size

@@ -1,24 +1,24 @@
-use mathlib.Core.Path.{_≡_, ap, _∙_, subst}
-use mathlib.Core.Bool.{Bool, true, false}
+use mathlib.Core.Path.{ap, _∙_}
+use mathlib.Core.Bool.{true, false}
 use Prim.Native.Nat.{_%_, _*_, _^_, _≤_, _<_}
 use native.Mathlib.Nat.{lt-of-lt-of-le}
 use native.Mathlib.Omega.{arith}
 use lib.Dec.{lit<}
 use lib.IntN.{ℤ, pos, _*ℤ_}
 use lib.Pow.{pow-mono}
-use lib.Signed.{ltZ}
 use mir.Syntax.{w16, w32}
 use mir.Val.{SFits, toZ, ofZ}
 use mir.Facts.{toZ-ofZ}
 use Rattle.integers.specs.Base.{Is, Within}
 use Rattle.integers.specs.Bound.{fits-within, within-mul, within-fits}
 use Rattle.integers.specs.Expression.{is-arg, is-cast, is-mul, need-mul}
-use Rattle.integers.specs.Signed.{signed, back, widen}
+use Rattle.integers.specs.Signed.{signed, back, widen, ltZ-back-left, ltZ-back-right}
 use Rattle.basicop.specs.Operators.{word16}
 use Rattle.basicop.proofs.Shift.{power, times-positive, times-negative, times-zero}
 use Rattle.basicop.proofs.up.Statement.{statement}
 use Rattle.basicop.proofs.up.Tie as tie
 
+-- below it
 module _ (s : tie.Start) (h : s .args .n < 15) where
   small : Within (2 ^ 14) (pos (2 ^ s .args .n))
   small = record { within = pow-mono {i = s .args .n} {j = 14} (omega arith) }
@@ -57,33 +57,26 @@ returns c =
     back w16 (c .saturate .ok) (c .saturate .ensures ∙ ap (λ (z : ℤ). word16 z) (is-mul (number s h) (factor s h) (product s h) .is))
 
 -- from the fifteenth power on
-module _ (s : tie.Start) (h : 15 ≤ s .args .n) where
-  large : 32767 < 2 ^ s .args .n
-  large = lt-of-lt-of-le (lit< tt) (pow-mono h)
-
-  above : (b : Bool) → ltZ (pos 0) (toZ w16 (ofZ w16 (s .args .a))) ≡ b → ltZ (pos 0) (s .args .a) ≡ b
-  above b t = subst (λ (z : ℤ). ltZ (pos 0) z ≡ b) (toZ-ofZ (s .fits .a)) t
-
-  below : (b : Bool) → ltZ (toZ w16 (ofZ w16 (s .args .a))) (pos 0) ≡ b → ltZ (s .args .a) (pos 0) ≡ b
-  below b t = subst (λ (z : ℤ). ltZ z (pos 0) ≡ b) (toZ-ofZ (s .fits .a)) t
+large : (s : tie.Start) → 15 ≤ s .args .n → 32767 < 2 ^ s .args .n
+large s h = lt-of-lt-of-le (lit< tt) (pow-mono h)
 
 returns-2 : tie.Need-returns-2
 returns-2 c =
     let s = c .before .before in
     let h : 15 ≤ s .args .n = omega arith in
-    times-positive 32767 (2 ^ s .args .n) (large s h) (s .args .a) (above s h true (c .if2 .taken))
+    times-positive 32767 (2 ^ s .args .n) (large s h) (s .args .a) (ltZ-back-right (pos 0) true (s .fits .a) (c .if2 .taken))
 
 returns-3 : tie.Need-returns-3
 returns-3 c =
     let s = c .before .before .before in
     let h : 15 ≤ s .args .n = omega arith in
-    times-negative 32767 (2 ^ s .args .n) (large s h) (s .args .a) (below s h true (c .if3 .taken))
+    times-negative 32767 (2 ^ s .args .n) (large s h) (s .args .a) (ltZ-back-left (pos 0) true (s .fits .a) (c .if3 .taken))
 
 returns-4 : tie.Need-returns-4
 returns-4 c =
     let s = c .before .before .before in
     let h : 15 ≤ s .args .n = omega arith in
-    times-zero 32767 (2 ^ s .args .n) (large s h) (s .args .a) (above s h false (c .before .if2 .left)) (below s h false (c .if3 .left))
+    times-zero 32767 (2 ^ s .args .n) (large s h) (s .args .a) (ltZ-back-right (pos 0) false (s .fits .a) (c .before .if2 .left)) (ltZ-back-left (pos 0) false (s .fits .a) (c .if3 .left))
 
 pub up-spec : {M : Type 1} → statement M
 up-spec =

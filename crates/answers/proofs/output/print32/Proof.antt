@@ -26,13 +26,13 @@ sub-print64 : tie.Need-sub-print64
 sub-print64 c = let s = c .before .before .before in negative-fits (s .fits .x)
 
 cast-print64 : tie.Need-cast-print64
-cast-print64 c = let s = c .before .before .before in let z = size-negative (s .fits .x) (c .before .before .if1 .taken) in (z .nonneg, small s _ (z .size))
+cast-print64 c = let s = c .before .before .before in let z = size-negative (s .fits .x) (c .before .before .if1 .taken) in (z .sign, small s _ (z .size))
 
 print64-requires : tie.Need-print64-requires
 print64-requires c κs = tt
 
 cast-print64-2 : tie.Need-cast-print64-2
-cast-print64-2 c = let s = c .before in let z = size-nonneg (s .fits .x) (c .if1 .left) in (z .nonneg, small s _ (z .size))
+cast-print64-2 c = let s = c .before in let z = size-nonneg (s .fits .x) (c .if1 .left) in (z .sign, small s _ (z .size))
 
 print64-requires-2 : tie.Need-print64-requires-2
 print64-requires-2 c κs = tt
