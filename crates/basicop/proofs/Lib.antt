@@ -1,2 +1,3 @@
-pub mod Shift
 pub mod Bisection
+pub mod Shift
+pub mod Values

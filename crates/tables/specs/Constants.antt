@@ -1,4 +1,4 @@
--- The constants of document 01, for definitions; src/lib.rt has them for code.
+-- The constants of document 01, for definitions; src/lib.rt has them for code, in the same order (tests/compare-tables).
 use Prim.Native.Nat.{ℕ}
 
 -- ---- sizes (document 01, "Constants")
