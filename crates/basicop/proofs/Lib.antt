@@ -1,3 +1,3 @@
-pub mod Bisection
+pub mod Digits
 pub mod Shift
 pub mod Values

@@ -133,21 +133,27 @@ pub fn round16(a: i32) -> i16
     extract_h(l_add(a, 32768))
 }
 
-// By bisection: r * r <= v < (r + s) * (r + s).
+// A bit of the root in each turn, from the highest: x is what the square of the root so far leaves of v, and r that root
+// times twice the bit.
 pub fn isqrt64(v: u64) -> u32
     ensures { λ r. ⌜ r ≡ root v ⌝ }
 {
+    if v == 0 {
+        return 0;
+    }
+    let mut x = v;
     let mut r: u64 = 0;
-    let mut s: u64 = 0x1_0000_0000;
-    while 1 < s {
-        let h = s / 2;
-        let t = r + h;
-        if t * t <= v {
-            r = t;
-            s = s - h;
+    // The highest power of four that is at most v.
+    let mut bit: u64 = 1 << (62 - u64::leading_zeros(v) / 2 * 2);
+    while bit != 0 {
+        let t = r + bit;
+        if t <= x {
+            x -= t;
+            r = r / 2 + bit;
         } else {
-            s = h;
+            r = r / 2;
         }
+        bit = bit / 4;
     }
     r as u32
 }

@@ -114,6 +114,9 @@ fits-within {w} {B} {z} h t = record { sfits = omega (arith, mag-abs z, h .withi
 pub within-back : {w : Width} {z : ℤ} → SFits w z → Within (2 ^ hbits w) (toZ w (ofZ w z))
 within-back f = within-fits (subst (SFits _) (sym (toZ-ofZ f)) f)
 
+pub within-read : (w : Width) (z : ℤ) → mag z < 2 ^ hbits w → Within (2 ^ hbits w) (toZ w (ofZ w z))
+within-read w z p = within-back {w = w} {z = z} (record { sfits = p })
+
 -- ---- lists of which each element is within a bound
 
 pub all-within-fit : {w : Width} {xs : List ℤ} → AllFit w xs → AllWithin (2 ^ hbits w) xs

@@ -11,7 +11,7 @@ use lib.IntN.{ℤ, pos, negsuc, natAbs, negℤ, subℕ, _+ℤ_, _-ℤ_, _*ℤ_}
 use lib.Signed.{mag, shrZ, leZ, ltZ, _≤ℤ_, _<ℤ_}
 use mir.Syntax.{Width}
 use mir.Val.{SFits, hbits}
-use Rattle.integers.specs.Base.{up, down}
+use Rattle.integers.specs.Base.{floorDiv, up, down}
 use Rattle.integers.specs.Natural.{cond-elim}
 
 -- ---- operations
@@ -121,6 +121,14 @@ nltZ-in a b e = nlt-in a b (subst (λ (t : Bool). T (not t)) (sym e) tt)
 -- ---- the set
 
 pub ruleset line = (arith, ≤-in, ≤-out, <-in, <-out, ≡-in, ≡-out, ltZ-in, nltZ-in)
+
+-- ---- floorDiv is the floor
+
+pub floor-le : (z : ℤ) (m : ℕ) → 0 < m → (floorDiv z m *ℤ pos m) ≤ℤ z
+floor-le z m h = omega (line, line-shr z m h, line-mul (floorDiv z m) m)
+
+pub floor-lt : (z : ℤ) (m : ℕ) → 0 < m → z <ℤ (floorDiv z m *ℤ pos m +ℤ pos m)
+floor-lt z m h = omega (line, line-shr z m h, line-mul (floorDiv z m) m, line-add (floorDiv z m *ℤ pos m) (pos m))
 
 -- ---- ranges of types
 

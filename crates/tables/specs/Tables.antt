@@ -1,4 +1,4 @@
--- The tables of the decoder (document 01; the Rust's spec_tables.rs).
+-- The tables of the decoder (document 01; the Rust's spec_tables.rs). Clauses are those of G.723.1 that the Rust names at the table and, where it differs, at its use.
 use mathlib.Core.Bool.{cond, _&&_}
 use mathlib.Core.List.{List, [], _∷_}
 use Prim.Native.Nat.{ℕ, _+_, _*_}
@@ -6,7 +6,7 @@ use lib.Dec.{ltb}
 use lib.IntN.{ℤ, pos, negsuc}
 use lib.ListN.{getD}
 
--- one period of the cosine in 512 steps, in 16384ths (G.723.1 §2.5; LSP_COSINE_LOOKUP_Q15)
+-- one period of the cosine in 512 steps, in 16384ths (LSP_COSINE_LOOKUP_Q15; §2.5, used in §2.7)
 unfoldable pub cosines : List ℤ
 cosines =
     pos 16384 ∷ pos 16383 ∷ pos 16379 ∷ pos 16373 ∷ pos 16364 ∷ pos 16353 ∷ pos 16340 ∷ pos 16324 ∷ pos 16305 ∷ pos 16284 ∷ pos 16261 ∷ pos 16235 ∷ pos 16207 ∷ pos 16176 ∷ pos 16143 ∷ pos 16107 ∷
@@ -42,17 +42,17 @@ cosines =
     pos 15137 ∷ pos 15213 ∷ pos 15286 ∷ pos 15357 ∷ pos 15426 ∷ pos 15493 ∷ pos 15557 ∷ pos 15619 ∷ pos 15679 ∷ pos 15736 ∷ pos 15791 ∷ pos 15843 ∷ pos 15893 ∷ pos 15941 ∷ pos 15986 ∷ pos 16029 ∷
     pos 16069 ∷ pos 16107 ∷ pos 16143 ∷ pos 16176 ∷ pos 16207 ∷ pos 16235 ∷ pos 16261 ∷ pos 16284 ∷ pos 16305 ∷ pos 16324 ∷ pos 16340 ∷ pos 16353 ∷ pos 16364 ∷ pos 16373 ∷ pos 16379 ∷ pos 16383 ∷ []
 
--- mean LSPs (G.723.1 §2.6; LSP_DC_PREDICTED_FREQ_Q15)
+-- mean LSPs (LSP_DC_PREDICTED_FREQ_Q15; §2.6)
 unfoldable pub meanLsps : List ℤ
 meanLsps =
     pos 3131 ∷ pos 4721 ∷ pos 7690 ∷ pos 10806 ∷ pos 13872 ∷ pos 16495 ∷ pos 19752 ∷ pos 22260 ∷ pos 25484 ∷ pos 27718 ∷ []
 
--- gains of the fixed codebook, before they are doubled (G.723.1 §2.13, §2.14; FIXED_CODEBOOK_GAIN_Q15)
+-- gains of the fixed codebook, before they are doubled (FIXED_CODEBOOK_GAIN_Q15; §2.13, §2.14)
 unfoldable pub gains : List ℕ
 gains =
     1 ∷ 2 ∷ 3 ∷ 4 ∷ 6 ∷ 9 ∷ 13 ∷ 18 ∷ 26 ∷ 38 ∷ 55 ∷ 80 ∷ 115 ∷ 166 ∷ 240 ∷ 348 ∷ 502 ∷ 726 ∷ 1050 ∷ 1517 ∷ 2193 ∷ 3170 ∷ 4582 ∷ 6623 ∷ []
 
--- weights of position codes, row after row (G.723.1 §2.13; MPMLQ_COMBINATORIAL)
+-- weights of position codes, row after row (MPMLQ_COMBINATORIAL; §2.13, used in §2.15, §2.17)
 unfoldable pub weights : List ℕ
 weights =
     118755 ∷ 98280 ∷ 80730 ∷ 65780 ∷ 53130 ∷ 42504 ∷ 33649 ∷ 26334 ∷ 20349 ∷ 15504 ∷ 11628 ∷ 8568 ∷ 6188 ∷ 4368 ∷ 3003 ∷ 2002 ∷ 1287 ∷ 792 ∷ 462 ∷ 252 ∷ 126 ∷ 56 ∷ 21 ∷ 6 ∷ 1 ∷ 0 ∷ 0 ∷ 0 ∷ 0 ∷ 0 ∷
@@ -66,7 +66,7 @@ weights =
 abbrev pub weight : ℕ → ℕ → ℕ
 weight m i = cond (ltb m 6 && ltb i 30) (getD weights (m * 30 + i) 0) 0
 
--- zeros and poles of the formant postfilter, in 32768ths (G.723.1 §2.18; POSTFILTER_ZERO_Q15, POSTFILTER_POLE_Q15)
+-- zeros and poles of the formant postfilter, in 32768ths (POSTFILTER_ZERO_Q15, POSTFILTER_POLE_Q15; §2.18, used in §3.8)
 unfoldable pub postfilterZeros : List ℤ
 postfilterZeros =
     pos 21299 ∷ pos 13844 ∷ pos 8999 ∷ pos 5849 ∷ pos 3802 ∷ pos 2471 ∷ pos 1606 ∷ pos 1044 ∷ pos 679 ∷ pos 441 ∷ []

@@ -1,11 +1,12 @@
-// The tables of the decoder, as the Rust's spec_tables.rs has them, and functions that read them at any index.
+// The tables of the decoder, as the Rust's spec_tables.rs has them, and functions that read them at any index. Clauses are
+// those of G.723.1 that the Rust names at the table and, where it differs, at its use.
 ghost use mathlib.Core.Path.{_≡_};
 ghost use lib.IntN.{pos};
 ghost use lib.ListN.{getD};
 ghost use Rattle.integers.specs.Base.{entry};
 ghost use Rattle.tables.specs.Tables.{cosines, meanLsps, gains, weight, postfilterZeros, postfilterPoles};
 
-// One period of the cosine, in 16384ths (G.723.1 §2.5).
+// One period of the cosine, in 16384ths (§2.5; used in §2.7).
 const LSP_COSINE_LOOKUP_Q15: [i16; 512] = [
     16384,
     16383,
@@ -521,7 +522,7 @@ const LSP_COSINE_LOOKUP_Q15: [i16; 512] = [
     16383,
 ];
 
-// Mean LSPs (G.723.1 §2.6).
+// Mean LSPs (§2.6).
 const LSP_DC_PREDICTED_FREQ_Q15: [i16; 10] = [
     3131,
     4721,
@@ -535,7 +536,7 @@ const LSP_DC_PREDICTED_FREQ_Q15: [i16; 10] = [
     27718,
 ];
 
-// Weights of position codes: six rows of thirty (G.723.1 §2.13).
+// Weights of position codes: six rows of thirty (§2.13; used in §2.15, §2.17).
 const MPMLQ_COMBINATORIAL: [u32; 180] = [
     118755,
     98280,
@@ -719,7 +720,7 @@ const MPMLQ_COMBINATORIAL: [u32; 180] = [
     1,
 ];
 
-// Gains of the fixed codebook (G.723.1 §2.13, §2.14).
+// Gains of the fixed codebook (§2.13, §2.14).
 const FIXED_CODEBOOK_GAIN_Q15: [i16; 24] = [
     1,
     2,
@@ -747,7 +748,7 @@ const FIXED_CODEBOOK_GAIN_Q15: [i16; 24] = [
     6623,
 ];
 
-// Formant postfilter, zeros and poles, in 32768ths (G.723.1 §2.18).
+// Formant postfilter, zeros and poles, in 32768ths (§2.18; used in §3.8).
 const POSTFILTER_ZERO_Q15: [i16; 10] = [21299, 13844, 8999, 5849, 3802, 2471, 1606, 1044, 679, 441];
 
 const POSTFILTER_POLE_Q15: [i16; 10] = [
