@@ -128,34 +128,34 @@ all-within-le a h = record { at = λ i. within-le (a .at i) h }
 zero-within : (B : ℕ) → Within B (pos 0)
 zero-within B = record { within = omega arith }
 
-set-at : (B : ℕ) (xs : List ℤ) (k : ℕ) (v : ℤ) → ((i : ℕ) → Within B (entry xs i)) → Within B v → (i : ℕ) → Within B (entry (set xs k v) i)
-set-at B [] k v h w i = h i
-set-at B (x ∷ xs) zero v h w zero = w
-set-at B (x ∷ xs) zero v h w (suc i) = h (suc i)
-set-at B (x ∷ xs) (suc k) v h w zero = h zero
-set-at B (x ∷ xs) (suc k) v h w (suc i) = set-at B xs k v (λ j. h (suc j)) w i
+each-set : (B : ℕ) (xs : List ℤ) (k : ℕ) (v : ℤ) → ((i : ℕ) → Within B (entry xs i)) → Within B v → (i : ℕ) → Within B (entry (set xs k v) i)
+each-set B [] k v h w i = h i
+each-set B (x ∷ xs) zero v h w zero = w
+each-set B (x ∷ xs) zero v h w (suc i) = h (suc i)
+each-set B (x ∷ xs) (suc k) v h w zero = h zero
+each-set B (x ∷ xs) (suc k) v h w (suc i) = each-set B xs k v (λ j. h (suc j)) w i
 
 pub all-within-set : {B : ℕ} {xs : List ℤ} (k : ℕ) {v : ℤ} → AllWithin B xs → Within B v → AllWithin B (set xs k v)
-all-within-set {B} {xs} k {v} a w = record { at = set-at B xs k v (a .at) w }
+all-within-set {B} {xs} k {v} a w = record { at = each-set B xs k v (a .at) w }
 
-snoc-at : (B : ℕ) (xs : List ℤ) (v : ℤ) → ((i : ℕ) → Within B (entry xs i)) → Within B v → (i : ℕ) → Within B (entry (xs ++ (v ∷ [])) i)
-snoc-at B [] v h w zero = w
-snoc-at B [] v h w (suc i) = zero-within B
-snoc-at B (x ∷ xs) v h w zero = h zero
-snoc-at B (x ∷ xs) v h w (suc i) = snoc-at B xs v (λ j. h (suc j)) w i
+each-snoc : (B : ℕ) (xs : List ℤ) (v : ℤ) → ((i : ℕ) → Within B (entry xs i)) → Within B v → (i : ℕ) → Within B (entry (xs ++ (v ∷ [])) i)
+each-snoc B [] v h w zero = w
+each-snoc B [] v h w (suc i) = zero-within B
+each-snoc B (x ∷ xs) v h w zero = h zero
+each-snoc B (x ∷ xs) v h w (suc i) = each-snoc B xs v (λ j. h (suc j)) w i
 
-tabulate-at : (B : ℕ) (f : ℕ → ℤ) → ((i : ℕ) → Within B (f i)) → (n : ℕ) (i : ℕ) → Within B (entry (tabulate f n) i)
+each-tabulate : (B : ℕ) (f : ℕ → ℤ) → ((i : ℕ) → Within B (f i)) → (n : ℕ) (i : ℕ) → Within B (entry (tabulate f n) i)
 unfolding tabulate
-tabulate-at B f h zero i = zero-within B
-tabulate-at B f h (suc n) i = snoc-at B (tabulate f n) (f n) (tabulate-at B f h n) (h n) i
+each-tabulate B f h zero i = zero-within B
+each-tabulate B f h (suc n) i = each-snoc B (tabulate f n) (f n) (each-tabulate B f h n) (h n) i
 
 pub all-within-tabulate : {B : ℕ} {f : ℕ → ℤ} (n : ℕ) → ((i : ℕ) → Within B (f i)) → AllWithin B (tabulate f n)
-all-within-tabulate {B} {f} n h = record { at = tabulate-at B f h n }
+all-within-tabulate {B} {f} n h = record { at = each-tabulate B f h n }
 
-replicate-at : (B n i : ℕ) → Within B (entry (replicate n (pos 0)) i)
-replicate-at B zero i = zero-within B
-replicate-at B (suc n) zero = zero-within B
-replicate-at B (suc n) (suc i) = replicate-at B n i
+each-zero : (B n i : ℕ) → Within B (entry (replicate n (pos 0)) i)
+each-zero B zero i = zero-within B
+each-zero B (suc n) zero = zero-within B
+each-zero B (suc n) (suc i) = each-zero B n i
 
 pub all-within-zero : {B : ℕ} (n : ℕ) → AllWithin B (replicate n (pos 0))
-all-within-zero {B} n = record { at = replicate-at B n }
+all-within-zero {B} n = record { at = each-zero B n }
