@@ -1,7 +1,8 @@
 #!/usr/bin/env python3
 """Prints the questions of crate answers, a line each, in a fixed order.
 
-Operators: all pairs of edge values and a spread of others. Roots: at squares and beside them. Pairs of words: products,
+Operators of two operands: all pairs of edge values and a spread of others; l_mac a selection of them. Roots: at squares and
+beside them. Pairs of words: products,
 multiples, shifts, orders and quotients at edges and over a spread.
 """
 import random

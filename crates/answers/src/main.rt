@@ -1,5 +1,6 @@
 // Answers questions as `oracle layers` of tests/oracle does: a line has a name and decimal numbers, its answer is a
-// line of decimal numbers. The file `stdin` has the questions and `stdout` the oracle's answers (tests/make-answers).
+// line of decimal numbers. The file `stdin` has the questions and `stdout` the oracle's answers (tests/make-answers). A
+// question has one space between its words and numbers that fit; what else a line may hold is not looked for.
 mod input;
 mod operators;
 mod output;

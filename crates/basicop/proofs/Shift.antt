@@ -5,46 +5,14 @@ use Prim.Native.Nat.{ℕ, zero, suc, _*_, _%_, _^_, _≤_, _<_}
 use native.Mathlib.Nat.{div-eq-of-lt, mod-eq-of-lt, le-trans}
 use native.Mathlib.Omega.{arith}
 use borrow.Author.Tests.{ltb-false}
-use lib.Dec.{T, lit<}
+use lib.Dec.{T}
 use lib.Pow.{pow-mono}
-use lib.IntN.{ℤ, pos, negsuc, natAbs, negℤ, _-ℤ_, _*ℤ_}
-use lib.Signed.{mag, ltZ, nonNeg, mag-shr}
-use mir.Syntax.{w32, w64}
-use mir.Val.{SFits, toZ, ofZ}
-use mir.Facts.{toZ-ofZ}
+use lib.IntN.{ℤ, pos, negsuc, natAbs, negℤ, _*ℤ_}
+use lib.Signed.{mag, ltZ, mag-shr}
 use Rattle.integers.specs.Base.{saturated, floorDiv}
-use Rattle.integers.specs.Bound.{abs-neg}
-use Rattle.integers.specs.Linear.{line, line-neg, line-sub}
 use Rattle.integers.specs.Saturation.{saturated-id}
 use Rattle.integers.specs.Natural.{none-below-zero}
-use Rattle.integers.specs.Signed.{signed, nonneg, neg-nonneg, sub-fits}
 use Rattle.basicop.specs.Operators.{scaled}
-
--- ---- the size of a 32-bit number, taken in 64 bits
-
--- z is not negative and has n's size
-pub record Sized (n z : ℤ) : Type 0 where
-  pub sign : T (nonNeg z)
-  pub size : natAbs z ≡ natAbs n
-
-zero-sub : (z : ℤ) → pos 0 -ℤ z ≡ negℤ z
-zero-sub z = omega (line, line-sub (pos 0) z, line-neg z)
-
-module _ {n : ℤ} (f : SFits w32 n) where
-  pub widened : toZ w64 (ofZ w64 (toZ w32 (ofZ w32 n))) ≡ n
-  widened = search signed
-
-  pub negative-fits : SFits w64 (pos 0 -ℤ toZ w64 (ofZ w64 (toZ w32 (ofZ w32 n))))
-  negative-fits = subst (λ (z : ℤ). SFits w64 (pos 0 -ℤ z)) (sym widened) (sub-fits {w₁ = w32} {w₂ = w32} (pos 0) n (record { sfits = lit< tt }) f tt)
-
-  negative : toZ w64 (ofZ w64 (pos 0 -ℤ toZ w64 (ofZ w64 (toZ w32 (ofZ w32 n))))) ≡ negℤ n
-  negative = toZ-ofZ {w = w64} negative-fits ∙ ap (λ (z : ℤ). pos 0 -ℤ z) widened ∙ zero-sub n
-
-  pub size-negative : ltZ (toZ w64 (ofZ w64 (toZ w32 (ofZ w32 n)))) (pos 0) ≡ true → Sized n (toZ w64 (ofZ w64 (pos 0 -ℤ toZ w64 (ofZ w64 (toZ w32 (ofZ w32 n))))))
-  size-negative h = record { sign = subst (λ (z : ℤ). T (nonNeg z)) (sym negative) (neg-nonneg n (subst (λ (z : ℤ). ltZ z (pos 0) ≡ true) widened h)); size = ap natAbs negative ∙ abs-neg n }
-
-  pub size-nonneg : ltZ (toZ w64 (ofZ w64 (toZ w32 (ofZ w32 n)))) (pos 0) ≡ false → Sized n (toZ w64 (ofZ w64 (toZ w32 (ofZ w32 n))))
-  size-nonneg h = record { sign = subst (λ (z : ℤ). T (nonNeg z)) (sym widened) (nonneg n (subst (λ (z : ℤ). ltZ z (pos 0) ≡ false) widened h)); size = ap natAbs widened }
 
 -- ---- powers as the code has them
 

@@ -2,7 +2,7 @@
 use mathlib.Core.Path.{_≡_, refl}
 use lib.IntN.{pos, negsuc}
 use Rattle.integers.specs.Base.{saturated}
-use Rattle.basicop.specs.Operators.{mult16, shl16}
+use Rattle.basicop.specs.Operators.{mult16}
 use Rattle.basicop.specs.Root.{root}
 
 pub root-of-15 : root 15 ≡ 3
@@ -17,13 +17,3 @@ root-of-16 = refl
 pub mult-least : mult16 (negsuc 32767) (negsuc 32767) ≡ pos 32767
 unfolding saturated
 mult-least = refl
-
--- mult floors: 1 times -1
-pub mult-floors : mult16 (pos 1) (negsuc 0) ≡ negsuc 0
-unfolding saturated
-mult-floors = refl
-
--- a negative count floors too
-pub shl-floors : shl16 (negsuc 0) (negsuc 0) ≡ negsuc 0
-unfolding saturated
-shl-floors = refl

@@ -49,14 +49,15 @@ pub fn mult(a: i16, b: i16) -> i16
 }
 
 // The size of a count, in 64 bits since the least one has no negative of its type.
-fn size(n: i32) -> u32
+fn count_size(n: i32) -> u32
     ensures { λ r. ⌜ r ≡ natAbs n ⌝ }
 {
     let m = n as i64;
     if m < 0 { (-m) as u32 } else { m as u32 }
 }
 
-fn up(a: i16, n: u32) -> i16
+// The number times 2^n, limited.
+fn scaled_up(a: i16, n: u32) -> i16
     ensures { λ r. ⌜ r ≡ word16 (a *ℤ pos (2 ^ n)) ⌝ }
 {
     if n < 15 {
@@ -70,7 +71,8 @@ fn up(a: i16, n: u32) -> i16
     }
 }
 
-fn down(a: i16, n: u32) -> i16
+// The floor of the number over 2^n.
+fn scaled_down(a: i16, n: u32) -> i16
     ensures { λ r. ⌜ r ≡ floorDiv a (2 ^ n) ⌝ }
 {
     if n < 16 {
@@ -87,9 +89,9 @@ pub fn shl(a: i16, n: i32) -> i16
     ensures { λ r. ⌜ r ≡ shl16 a n ⌝ }
 {
     if n < 0 {
-        down(a, size(n))
+        scaled_down(a, count_size(n))
     } else {
-        up(a, size(n))
+        scaled_up(a, count_size(n))
     }
 }
 
@@ -97,9 +99,9 @@ pub fn shr(a: i16, n: i32) -> i16
     ensures { λ r. ⌜ r ≡ shr16 a n ⌝ }
 {
     if n < 0 {
-        up(a, size(n))
+        scaled_up(a, count_size(n))
     } else {
-        down(a, size(n))
+        scaled_down(a, count_size(n))
     }
 }
 
@@ -133,8 +135,8 @@ pub fn round16(a: i32) -> i16
     extract_h(l_add(a, 32768))
 }
 
-// A bit of the root in each turn, from the highest: x is what the square of the root so far leaves of v, and r that root
-// times twice the bit.
+// A bit of the root in each turn, from the highest: `bit` is the square of the root's next bit, x is what the square of the
+// root so far leaves of v, and r is that root times twice its next bit.
 pub fn isqrt64(v: u64) -> u32
     ensures { λ r. ⌜ r ≡ root v ⌝ }
 {

@@ -5,7 +5,8 @@ use mathlib.Core.List.{List, [], _∷_, _++_}
 use Prim.Native.Nat.{ℕ, zero, suc, _*_, _≤_, min}
 use lib.ListN.{getD, take, length}
 use lib.IntN.{ℤ, pos, negsuc, natAbs, _+ℤ_}
-use lib.Signed.{shrZ, ltZ}
+use lib.Dec.{T}
+use lib.Signed.{shrZ, ltZ, nonNeg}
 use mir.Syntax.{Width}
 use mir.Val.{SFits, toZ}
 
@@ -15,7 +16,7 @@ use mir.Val.{SFits, toZ}
 abbrev pub floorDiv : ℤ → ℕ → ℤ
 floorDiv z m = shrZ z m
 
--- the number nearest to z in -(M + 1) ..= M (G.191's saturation; `saturated-nearest` of Saturation)
+-- the number nearest to z in -(M + 1) ..= M (G.191's saturation; `saturated-bound` and `saturated-nearest` of Saturation)
 unfoldable pub saturated : ℕ → ℤ → ℤ
 saturated M (pos n) = pos (min n M)
 saturated M (negsuc n) = negsuc (min n M)
@@ -72,6 +73,11 @@ pub record AllFit (w : Width) (xs : List ℤ) : Type 0 where
 -- the bits n, read as a signed number of width w, are z
 pub record Is (w : Width) (n : ℕ) (z : ℤ) : Type 0 where
   pub is : toZ w n ≡ z
+
+-- z is not negative and has n's size
+pub record Sized (n z : ℤ) : Type 0 where
+  pub sign : T (nonNeg z)
+  pub size : natAbs z ≡ natAbs n
 
 -- the bits acc of width w are the sum of the first j values of f, each of them within B
 pub record Sums (w : Width) (f : ℕ → ℤ) (B acc j : ℕ) : Type 0 where

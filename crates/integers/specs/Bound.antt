@@ -104,7 +104,7 @@ within-fits {w} {z} f = record { within = natAbs-le z (f .sfits) }
 
 -- as a read of an element (`.given`) and a call (`.ok`) tell it
 pub within-mag : (w : Width) (z : ℤ) → mag z < 2 ^ hbits w → Within (2 ^ hbits w) z
-within-mag w z p = record { within = natAbs-le z p }
+within-mag w z p = within-fits {w = w} (record { sfits = p })
 
 -- `fits-within h tt`
 pub fits-within : {w : Width} {B : ℕ} {z : ℤ} → Within B z → T (ltb B (2 ^ hbits w)) → SFits w z

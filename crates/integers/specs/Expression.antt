@@ -9,7 +9,7 @@ use mir.Syntax.{Width, w8, w16, w32, w64, w128}
 use mir.Val.{SFits, hbits, toZ, ofZ}
 use mir.Facts.{toZ-ofZ}
 use Rattle.integers.specs.Base.{Within, Is}
-use Rattle.integers.specs.Signed.{widen, shr-fits, shr-narrow, quot-fits, mean-fits, element-fits, add-fits, sub-fits, mul-fits}
+use Rattle.integers.specs.Signed.{read-back, back, widen, shr-fits, shr-narrow, quot-fits, mean-fits, element-fits, add-fits, sub-fits, mul-fits}
 
 -- ---- leaves
 
@@ -22,11 +22,11 @@ is-lit w n = record { is = refl }
 
 -- a number of which a read of an element (`.given`) or a call (`.ok`) tells the bound
 pub is-mag : {w : Width} (z : ℤ) → mag z < 2 ^ hbits w → Is w (ofZ w z) z
-is-mag {w} z p = record { is = toZ-ofZ {w = w} (record { sfits = p }) }
+is-mag {w} z p = record { is = read-back w z p }
 
 -- a call's result with what the call ensures: `is-result w16 (c .f .result) (c .f .ok) e`
 pub is-result : (w : Width) (r : ℤ) {s : ℤ} → mag r < 2 ^ hbits w → r ≡ s → Is w (ofZ w r) s
-is-result w r p e = record { is = is-mag {w = w} r p .is ∙ e }
+is-result w r p e = record { is = back w p e }
 
 -- ---- operations
 

@@ -5,6 +5,7 @@ pub mod Bound
 pub mod Signed
 pub mod Expression
 pub mod Linear
+pub mod Size
 pub mod Saturation
 pub mod Limit
 pub mod Sum

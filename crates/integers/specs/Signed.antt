@@ -103,7 +103,7 @@ mean-fits {w} x y f g = record {
 
 -- ---- elements of arrays
 
-zero-fits : (w : Width) → SFits w (pos 0)
+pub zero-fits : (w : Width) → SFits w (pos 0)
 zero-fits w8 = sfits-lit tt
 zero-fits w16 = sfits-lit tt
 zero-fits w32 = sfits-lit tt

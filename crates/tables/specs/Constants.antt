@@ -21,7 +21,7 @@ excHist = 146
 abbrev pub classifierHistory : ℕ
 classifierHistory = 120
 
--- ---- lags (document 01, "Constants"; from G.723.1)
+-- ---- lags (document 01, "Constants", from G.723.1; the Rust's QSynthesis::new, pitch_postfilter, classify_erasure_voicing)
 
 abbrev pub pitchMin : ℕ
 pitchMin = 18
@@ -29,7 +29,15 @@ pitchMin = 18
 abbrev pub pitchMax : ℕ
 pitchMax = 142
 
--- ---- LSPs (document 01, "LSPs"; the Rust's lsp_extrapolate, lsp_interpolate)
+-- both lags of a fresh state
+abbrev pub freshLag : ℕ
+freshLag = 60
+
+-- how far a search goes to either side of its centre
+abbrev pub lagReach : ℕ
+lagReach = 3
+
+-- ---- LSPs (document 01, "LSPs"; the Rust's lsp_extrapolate, lsp_interpolate, lsp_to_lpc_q13)
 
 abbrev pub stabilityPasses : ℕ
 stabilityPasses = 10
@@ -54,6 +62,13 @@ half = 16384
 abbrev pub threeQuarters : ℕ
 threeQuarters = 24576
 
+-- coefficients are 8192ths, the polynomials that they are made from 2 ^ 24ths
+abbrev pub lpcOne : ℕ
+lpcOne = 8192
+
+abbrev pub polynomialOne : ℕ
+polynomialOne = 16777216
+
 -- ---- excitation (document 01, "Adaptive part", "Pulses")
 
 abbrev pub acbTaps : ℕ
@@ -65,6 +80,13 @@ tapOne = 16384
 
 abbrev pub gridSlots : ℕ
 gridSlots = 30
+
+-- pulses of even and of odd subframes
+abbrev pub pulsesEven : ℕ
+pulsesEven = 6
+
+abbrev pub pulsesOdd : ℕ
+pulsesOdd = 5
 
 -- the first code without slots, for six and for five pulses
 abbrev pub positionLimitSix : ℕ
@@ -86,6 +108,17 @@ ltpGammaHigh = 6144
 abbrev pub ltpGammaLow : ℕ
 ltpGammaLow = 8192
 
+-- the factor of c² at the pitch postfilter's gate
+abbrev pub pitchGate : ℕ
+pitchGate = 4
+
+-- parts of the old tilt, and of all parts
+abbrev pub tiltKept : ℕ
+tiltKept = 3
+
+abbrev pub tiltParts : ℕ
+tiltParts = 4
+
 -- gains are 4096ths
 abbrev pub agcOne : ℕ
 agcOne = 4096
@@ -93,7 +126,14 @@ agcOne = 4096
 abbrev pub agcMax : ℕ
 agcMax = 1048576
 
--- ---- erasure (document 01, "Erasure"; the Rust's decode_erased)
+-- a sixteenth of the distance at each sample, and 17/16 at the end
+abbrev pub agcStep : ℕ
+agcStep = 16
+
+abbrev pub agcBoost : ℕ
+agcBoost = 17
+
+-- ---- erasure (document 01, "Erasure"; the Rust's decode_erased, classify_erasure_voicing)
 
 -- 3/4, in 32768ths
 abbrev pub erasureAttenuation : ℕ
@@ -101,6 +141,14 @@ erasureAttenuation = 24576
 
 abbrev pub erasureMuteAfter : ℕ
 erasureMuteAfter = 3
+
+-- the factor of c² at the voicing gate
+abbrev pub voicingGate : ℕ
+voicingGate = 8
+
+-- the scale by which voicing candidates rank, 2 ^ 30
+abbrev pub voicingRankOne : ℕ
+voicingRankOne = 1073741824
 
 abbrev pub noiseStart : ℕ
 noiseStart = 3735928559
@@ -142,6 +190,10 @@ lagCodeMax = 127
 
 abbrev pub stepCodeMax : ℕ
 stepCodeMax = 3
+
+-- the step code that adds 0
+abbrev pub stepCodeZero : ℕ
+stepCodeZero = 1
 
 abbrev pub gainIndexMax : ℕ
 gainIndexMax = 23

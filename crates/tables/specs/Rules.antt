@@ -1,4 +1,4 @@
--- What holds of each entry of a table: one computed test for each table.
+-- What holds of each cosine, gain and weight: one computed test for each of the three tables.
 use mathlib.Core.Path.{_≡_, refl, sym, ap, _∙_}
 use mathlib.Core.Bool.{Bool, cond, _&&_}
 use mathlib.Core.List.{List, [], _∷_}
@@ -14,12 +14,12 @@ use Rattle.tables.specs.Tables.{cosines, gains, weights, weight}
 
 -- ---- cosines: none is above 16384 in size
 
-small : ℤ → Bool
-small x = leb (natAbs x) 16384
+cosineTest : ℤ → Bool
+cosineTest x = leb (natAbs x) 16384
 
 pub cosine-within : (i : ℕ) → Within 16384 (entry cosines i)
-unfolding cosines every small
-cosine-within i = record { within = leb→le (natAbs (entry cosines i)) 16384 (every-any small cosines tt (pos 0) tt i) }
+unfolding cosines every cosineTest
+cosine-within i = record { within = leb→le (natAbs (entry cosines i)) 16384 (every-any cosineTest cosines tt (pos 0) tt i) }
 
 -- ---- gains: none is 0, no two are equal, the largest is 6623
 
@@ -28,8 +28,8 @@ unfoldable pub place : List ℕ → ℕ → ℕ
 place [] x = 0
 place (y ∷ ys) x = cond (eqb x y) 0 (suc (place ys x))
 
-fair : ℕ → ℕ → Bool
-fair k x = ltb 0 x && (leb x 6623 && eqb (place gains x) k)
+gainTest : ℕ → ℕ → Bool
+gainTest k x = ltb 0 x && (leb x 6623 && eqb (place gains x) k)
 
 pub record Gain (k x : ℕ) : Type 0 where
   pub positive : 0 < x
@@ -37,10 +37,10 @@ pub record Gain (k x : ℕ) : Type 0 where
   pub placed : place gains x ≡ k
 
 pub gain-rule : (k : ℕ) → k < 24 → Gain k (getD gains k 0)
-unfolding gains every fair place
+unfolding gains every gainTest place
 gain-rule k h =
     let x = getD gains k 0 in
-    let t = every-at fair gains tt k h 0 in
+    let t = every-at gainTest gains tt k h 0 in
     let u = and-right (ltb 0 x) (leb x 6623 && eqb (place gains x) k) t in
     record {
       positive = ltb→lt 0 x (and-left (ltb 0 x) (leb x 6623 && eqb (place gains x) k) t);
@@ -63,12 +63,12 @@ choose n zero = 1
 choose zero (suc k) = 0
 choose (suc n) (suc k) = choose n k + choose n (suc k)
 
-binomial : ℕ → ℕ → Bool
-binomial k x = eqb x (choose (29 - k % 30) (5 - k / 30))
+weightTest : ℕ → ℕ → Bool
+weightTest k x = eqb x (choose (29 - k % 30) (5 - k / 30))
 
 binomial-at : (k : ℕ) → k < 180 → getD weights k 0 ≡ choose (29 - k % 30) (5 - k / 30)
-unfolding weights every binomial choose
-binomial-at k h = eqb→eq (getD weights k 0) (choose (29 - k % 30) (5 - k / 30)) (every-at binomial weights tt k h 0)
+unfolding weights every weightTest choose
+binomial-at k h = eqb→eq (getD weights k 0) (choose (29 - k % 30) (5 - k / 30)) (every-at weightTest weights tt k h 0)
 
 pub weight-rule : (m i : ℕ) → m < 6 → i < 30 → weight m i ≡ choose (29 - i) (5 - m)
 weight-rule m i hm hi =

@@ -1,4 +1,4 @@
-//! What the five files lean on and is not among them. None of it holds arithmetic of the decoder.
+//! What the five files need and is not among them. None of it holds arithmetic of the decoder.
 #![allow(dead_code)]
 
 pub mod bitreader;

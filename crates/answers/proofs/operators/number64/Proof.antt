@@ -10,8 +10,8 @@ use Rattle.integers.specs.Bound.{mag-abs, within-num, within-sub}
 use Rattle.answers.proofs.operators.number64.Statement.{statement}
 use Rattle.answers.proofs.operators.number64.Tie as tie
 
-negative-fits : (n : ℕ) → n < 2 ^ 63 → SFits w64 (pos 0 -ℤ toZ w64 n)
-negative-fits n h =
+minus-fits : (n : ℕ) → n < 2 ^ 63 → SFits w64 (pos 0 -ℤ toZ w64 n)
+minus-fits n h =
     subst (λ (z : ℤ). SFits w64 (pos 0 -ℤ z)) (sym (toZ-ofZ {w = w64} {z = pos n} (record { sfits = h })))
     (record { sfits = omega (arith, mag-abs (pos 0 -ℤ pos n), within-sub (within-num (pos 0)) (within-num (pos n)) .within) })
 
@@ -25,7 +25,7 @@ cast-n : tie.Need-cast-n
 cast-n c = search needs
 
 sub-result : tie.Need-sub-result
-sub-result c = negative-fits (c .before .before .before .before .args .w .size) (omega arith)
+sub-result c = minus-fits (c .before .before .before .before .args .w .size) (omega arith)
 
 returns-3 : tie.Need-returns-3
 returns-3 c = search needs

@@ -15,10 +15,10 @@ use Rattle.integers.specs.Expression.{is-arg, is-cast, is-mul, need-mul}
 use Rattle.integers.specs.Signed.{signed, back, widen, ltZ-back-left, ltZ-back-right}
 use Rattle.basicop.specs.Operators.{word16}
 use Rattle.basicop.proofs.Shift.{power, times-positive, times-negative, times-zero}
-use Rattle.basicop.proofs.up.Statement.{statement}
-use Rattle.basicop.proofs.up.Tie as tie
+use Rattle.basicop.proofs.scaled_up.Statement.{statement}
+use Rattle.basicop.proofs.scaled_up.Tie as tie
 
--- below it
+-- below the fifteenth power
 module _ (s : tie.Start) (h : s .args .n < 15) where
   small : Within (2 ^ 14) (pos (2 ^ s .args .n))
   small = record { within = pow-mono {i = s .args .n} {j = 14} (omega arith) }
@@ -78,8 +78,8 @@ returns-4 c =
     let h : 15 ≤ s .args .n = omega arith in
     times-zero 32767 (2 ^ s .args .n) (large s h) (s .args .a) (ltZ-back-right (pos 0) false (s .fits .a) (c .before .if2 .left)) (ltZ-back-left (pos 0) false (s .fits .a) (c .if3 .left))
 
-pub up-spec : {M : Type 1} → statement M
-up-spec =
+pub scaled-up-spec : {M : Type 1} → statement M
+scaled-up-spec =
     tie.close
     (tie.spec
     cast-saturate

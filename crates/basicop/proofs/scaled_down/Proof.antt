@@ -7,8 +7,8 @@ use lib.Signed.{mag}
 use mathlib.Core.Bool.{true, false}
 use Rattle.integers.specs.Signed.{signed, ltZ-back-left}
 use Rattle.basicop.proofs.Shift.{floor-negative, floor-nonneg}
-use Rattle.basicop.proofs.down.Statement.{statement}
-use Rattle.basicop.proofs.down.Tie as tie
+use Rattle.basicop.proofs.scaled_down.Statement.{statement}
+use Rattle.basicop.proofs.scaled_down.Tie as tie
 
 cast-result : tie.Need-cast-result
 cast-result c = record { sfits = omega arith }
@@ -33,5 +33,5 @@ returns-3 c =
     let s = c .before .before in
     floor-nonneg (s .args .a) (2 ^ s .args .n) (small s (c .before .if1 .left)) (ltZ-back-left (pos 0) false (s .fits .a) (c .if2 .left))
 
-pub down-spec : {M : Type 1} → statement M
-down-spec = tie.close (tie.spec cast-result shr-result returns returns-2 returns-3)
+pub scaled-down-spec : {M : Type 1} → statement M
+scaled-down-spec = tie.close (tie.spec cast-result shr-result returns returns-2 returns-3)
