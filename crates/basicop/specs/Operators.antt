@@ -1,4 +1,4 @@
--- The basic operators of ITU-T G.191 that the decoder calls, in plain arithmetic: a 16-bit or 32-bit result is the nearest number in range.
+-- The basic operators of ITU-T G.191 that the decoder calls, as document 01 ("Operators") and the Rust's basicop.rs state them, in plain arithmetic: a 16-bit or 32-bit result is the nearest number in range.
 use Prim.Native.Nat.{suc, _^_}
 use lib.IntN.{ℤ, pos, negsuc, negℤ, _+ℤ_, _-ℤ_, _*ℤ_}
 use Rattle.integers.specs.Base.{saturated, floorDiv}
