@@ -2,13 +2,11 @@
 use mathlib.Core.Path.{_∙_, sym, subst}
 use mathlib.Core.Bool.{Bool, true, false, _&&_}
 use mathlib.Core.List.{List, [], _∷_}
-use mathlib.Core.Logic.{⊎-elim}
-use Prim.Native.Nat.{ℕ, zero, suc, _+_, _≤_, _<_}
+use Prim.Native.Nat.{ℕ, zero, suc, _+_, _<_}
 use native.Mathlib.Nat.{add-zero, zero-add, add-suc, suc-add, le-of-suc-le-suc, not-suc-le-zero}
 use lib.Dec.{T}
-use lib.ListN.{length, getD, List·getD-eq-default}
+use lib.ListN.{length, getD}
 use Rattle.integers.specs.Base.{every}
-use Rattle.integers.specs.Natural.{le-or-lt}
 
 -- ---- two tests at once
 
@@ -34,9 +32,3 @@ module _ {ℓ} {A : Type ℓ} where
   -- the test at the entry k; d is what a read past the end would give
   pub every-at : (p : ℕ → A → Bool) (xs : List A) → T (every p 0 xs) → (k : ℕ) → k < length xs → (d : A) → T (p k (getD xs k d))
   every-at p xs t k h d = subst (λ (m : ℕ). T (p m (getD xs k d))) (zero-add k) (every-from p xs 0 t k h d)
-
-  -- the same at any place, where d passes the test too
-  pub every-any : (p : A → Bool) (xs : List A) → T (every (λ k. p) 0 xs) → (d : A) → T (p d) → (k : ℕ) → T (p (getD xs k d))
-  every-any p xs t d u k =
-      ⊎-elim (λ (h : length xs ≤ k). subst (λ (x : A). T (p x)) (sym (List·getD-eq-default xs d h)) u) (λ (h : k < length xs). every-at (λ i. p) xs t k h d)
-      (le-or-lt (length xs) k)

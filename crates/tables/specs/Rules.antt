@@ -6,20 +6,31 @@ use Prim.Native.Nat.{ℕ, zero, suc, _+_, _-_, _*_, _/_, _%_, _≤_, _<_}
 use native.Mathlib.Omega.{arith}
 use borrow.Author.Tests.{lt-ltb}
 use lib.Dec.{leb, ltb, eqb, leb→le, ltb→lt, eqb→eq}
-use lib.IntN.{ℤ, pos, natAbs}
+use lib.IntN.{ℤ, pos, natAbs, _-ℤ_}
 use lib.ListN.{getD}
 use Rattle.integers.specs.Base.{every, entry, Within}
-use Rattle.integers.specs.Table.{every-at, every-any, and-left, and-right}
+use Rattle.integers.specs.Table.{every-at, and-left, and-right}
 use Rattle.tables.specs.Tables.{cosines, gains, weights, weight}
 
--- ---- cosines: none is above 16384 in size
+-- ---- cosines: none is above 16384 in size, and the next one in the period is at most 201 away
 
-cosineTest : ℤ → Bool
-cosineTest x = leb (natAbs x) 16384
+cosineTest : ℕ → ℤ → Bool
+cosineTest k x = leb (natAbs x) 16384 && leb (natAbs (entry cosines ((k + 1) % 512) -ℤ x)) 201
 
-pub cosine-within : (i : ℕ) → Within 16384 (entry cosines i)
+pub record Cosine (k : ℕ) (x : ℤ) : Type 0 where
+  pub size : Within 16384 x
+  pub next : Within 201 (entry cosines ((k + 1) % 512) -ℤ x)
+
+pub cosine-rule : (k : ℕ) → k < 512 → Cosine k (entry cosines k)
 unfolding cosines every cosineTest
-cosine-within i = record { within = leb→le (natAbs (entry cosines i)) 16384 (every-any cosineTest cosines tt (pos 0) tt i) }
+cosine-rule k h =
+    let x = entry cosines k in
+    let d = natAbs (entry cosines ((k + 1) % 512) -ℤ x) in
+    let t = every-at cosineTest cosines tt k h (pos 0) in
+    record {
+      size = record { within = leb→le (natAbs x) 16384 (and-left (leb (natAbs x) 16384) (leb d 201) t) };
+      next = record { within = leb→le d 201 (and-right (leb (natAbs x) 16384) (leb d 201) t) };
+    }
 
 -- ---- gains: none is 0, no two are equal, the largest is 6623
 

@@ -5,7 +5,7 @@ use lib.ListN.{List·getD-eq-default}
 use mir.Syntax.{w16}
 use mir.Facts.{toZ-ofZ}
 use Rattle.integers.specs.Bound.{fits-within}
-use Rattle.tables.specs.Rules.{cosine-within}
+use Rattle.tables.specs.Rules.{cosine-rule}
 use Rattle.tables.specs.Tables.{cosines}
 use Rattle.tables.proofs.spec_tables.lsp_cosine_lookup.Statement.{statement}
 use Rattle.tables.proofs.spec_tables.lsp_cosine_lookup.Tie as tie
@@ -18,7 +18,7 @@ array-copy-out-result c = search needs
 
 returns : tie.Need-returns
 unfolding cosines
-returns c = toZ-ofZ {w = w16} (fits-within (cosine-within (c .before .before .args .i)) tt)
+returns c = toZ-ofZ {w = w16} (fits-within (cosine-rule (c .before .before .args .i) (search needs) .size) tt)
 
 returns-2 : tie.Need-returns-2
 unfolding cosines
