@@ -1,0 +1,4 @@
+pub mod Cosines
+pub mod Products
+pub mod Values
+pub mod Passes

@@ -1,0 +1,2 @@
+pub mod Lsps
+pub mod Gaps

@@ -1,0 +1,292 @@
+// LSPs: from candidates to four sets of ten coefficients, under the Rust's names (qdec.rs).
+ghost use mathlib.Core.Path.{_≡_};
+ghost use mathlib.Core.Bool.{cond, _||_};
+ghost use Prim.Native.Nat.{_<_, _^_};
+ghost use lib.IntN.{_+ℤ_, _-ℤ_};
+ghost use lib.Signed.{ltZ};
+ghost use Rattle.integers.specs.Base.{floorDiv, entry, tabulate, up, Within, AllWithin};
+ghost use Rattle.lsp.specs.Lsps.{short, spread, pass, passMoves, anyShort, stabilised, checkOrPrevious, weightedSum, blend, interpolated, cosine, delayed, factorTerm, timesFactor, polynomial, roundedSum, coefficients, frameCoefficients, predicted, extrapolated};
+
+// The LSPs after stabilising, and whether every gap is then at least the minimum.
+pub struct Stabilised {
+    pub lsps: [i16; 10],
+    pub passed: bool,
+}
+
+// A pass under way: the LSPs, and whether it moved some.
+struct Pass {
+    lsps: [i16; 10],
+    moved: bool,
+}
+
+fn is_short(a: i16, b: i16, minimum: i16) -> bool
+    ensures { λ r. ⌜ r ≡ ltZ (b -ℤ a) minimum ⌝ }
+{
+    (b as i32 - a as i32) < (minimum as i32)
+}
+
+fn midpoint(a: i16, b: i16) -> i16
+    ensures { λ r. ⌜ r ≡ floorDiv (a +ℤ b) 2 ⌝ }
+{
+    ((a as i32 + b as i32) >> 1) as i16
+}
+
+fn moved_pair(p: [i16; 10], j: usize, minimum: i16) -> [i16; 10]
+    requires { ⌜ j < 9 ⌝ }
+    ensures { λ r. ⌜ r ≡ spread minimum p j ⌝ }
+{
+    let mut q = p;
+    let avg = midpoint(p[j], p[j + 1]);
+    let half = minimum / 2;
+    q[j] = basicop::sub(avg, half);
+    q[j + 1] = basicop::add(avg, half);
+    q
+}
+
+// The pair at j, in its turn of the pass.
+fn pair(s: Pass, j: usize, minimum: i16) -> Pass
+    requires { ⌜ j < 9 ⌝ }
+    ensures { λ r. ⌜ r .lsps ≡ cond (short minimum (s .lsps) j) (spread minimum (s .lsps) j) (s .lsps) ⌝ }
+    ensures { λ r. ⌜ r .moved ≡ (s .moved || short minimum (s .lsps) j) ⌝ }
+{
+    let p = s.lsps;
+    if is_short(p[j], p[j + 1], minimum) {
+        let q = moved_pair(p, j, minimum);
+        Pass {
+            lsps: q,
+            moved: true,
+        }
+    } else {
+        s
+    }
+}
+
+fn one_pass(p: [i16; 10], minimum: i16) -> Pass
+    ensures { λ r. ⌜ r .lsps ≡ pass minimum p ⌝ }
+    ensures { λ r. ⌜ r .moved ≡ passMoves minimum p ⌝ }
+{
+    let mut s = Pass {
+        lsps: p,
+        moved: false,
+    };
+    let mut j: usize = 0;
+    while j < 9 {
+        let t = pair(s, j, minimum);
+        s = t;
+        j += 1;
+    }
+    s
+}
+
+fn any_short(p: [i16; 10], minimum: i16) -> bool
+    ensures { λ r. ⌜ r ≡ anyShort minimum p ⌝ }
+{
+    let mut found = false;
+    let mut j: usize = 0;
+    while j < 9 {
+        found = found || is_short(p[j], p[j + 1], minimum);
+        j += 1;
+    }
+    found
+}
+
+pub fn lsp_stability(p: [i16; 10], minimum: i16) -> Stabilised
+    ensures { λ r. ⌜ r ≡ stabilised minimum p ⌝ }
+{
+    let mut q = p;
+    let mut n: usize = 0;
+    while n < tables::LSP_STABILITY_MAX_ITERATIONS {
+        let s = one_pass(q, minimum);
+        q = s.lsps;
+        if !s.moved {
+            return Stabilised {
+                lsps: q,
+                passed: true,
+            };
+        }
+        n += 1;
+    }
+    let short = any_short(q, minimum);
+    Stabilised {
+        lsps: q,
+        passed: !short,
+    }
+}
+
+pub fn lsp_check_or_previous(cand: [i16; 10], prev: [i16; 10], minimum: i16) -> [i16; 10]
+    ensures { λ r. ⌜ r ≡ checkOrPrevious minimum cand prev ⌝ }
+{
+    let s = lsp_stability(cand, minimum);
+    if s.passed { s.lsps } else { prev }
+}
+
+// Previous and current LSPs, by their weights in 32768ths.
+fn weighed(wp: i16, wc: i16, prev: i16, cur: i16) -> i16
+    ensures { λ r. ⌜ r ≡ weightedSum wp wc prev cur ⌝ }
+{
+    basicop::round16(basicop::l_mac(basicop::l_mult(prev, wp), cur, wc))
+}
+
+fn blended(wp: i16, wc: i16, prev: [i16; 10], cur: [i16; 10]) -> [i16; 10]
+    ensures { λ r. ⌜ r ≡ blend wp wc prev cur ⌝ }
+{
+    let mut out = [0i16; 10];
+    let mut i: usize = 0;
+    while i < 10 {
+        out[i] = weighed(wp, wc, prev[i], cur[i]);
+        i += 1;
+    }
+    out
+}
+
+pub fn lsp_interpolate(k: usize, prev: [i16; 10], cur: [i16; 10]) -> [i16; 10]
+    ensures { λ r. ⌜ r ≡ interpolated k prev cur ⌝ }
+{
+    match k {
+        0 => blended(
+            tables::LSP_THREE_QUARTERS_Q15,
+            tables::LSP_QUARTER_Q15,
+            prev,
+            cur,
+        ),
+        1 => blended(tables::LSP_HALF_Q15, tables::LSP_HALF_Q15, prev, cur),
+        2 => blended(
+            tables::LSP_QUARTER_Q15,
+            tables::LSP_THREE_QUARTERS_Q15,
+            prev,
+            cur,
+        ),
+        _ => cur,
+    }
+}
+
+// The place of an LSP in the table, in 128ths of its steps. Negative LSPs occur: stabilising holds gaps, not places.
+fn table_place(freq: i16) -> usize
+    ensures { λ r. ⌜ r ≡ up freq ⌝ }
+{
+    if freq < 0 { 0 } else { freq as usize }
+}
+
+pub fn cos_q14(freq: i16) -> i16
+    ensures { λ r. ⌜ r ≡ cosine freq ⌝ }
+{
+    let place = table_place(freq);
+    let idx = place / 128;
+    let frac = (place % 128) as i16;
+    let base = tables::lsp_cosine_lookup(idx);
+    let next = tables::lsp_cosine_lookup(idx + 1);
+    basicop::add(
+        base,
+        basicop::mult(basicop::sub(next, base), basicop::shl(frac, 8)),
+    )
+}
+
+// The coefficient d places before i, 0 before the first.
+fn earlier(p: &[i64; 11], i: usize, d: usize) -> i64
+    requires { ⌜ i < 11 ⌝ }
+    ensures { λ r. ⌜ r ≡ delayed (entry (now (p .entry))) i d ⌝ }
+{
+    if i < d { 0 } else { p[i - d] }
+}
+
+// A coefficient after one more factor, from x at its own place, y one before and z two before.
+fn term(c: i16, x: i64, y: i64, z: i64) -> i64
+    requires { ⌜ Within (2 ^ 37) x ⌝ }
+    requires { ⌜ Within (2 ^ 37) y ⌝ }
+    requires { ⌜ Within (2 ^ 37) z ⌝ }
+    ensures { λ r. ⌜ r ≡ factorTerm c x y z ⌝ }
+{
+    x - ((y * c as i64) >> 13) + z
+}
+
+fn times_factor(p: [i64; 11], c: i16) -> [i64; 11]
+    requires { ⌜ AllWithin (2 ^ 37) p ⌝ }
+    ensures { λ r. ⌜ r ≡ tabulate (timesFactor (entry p) c) 11 ⌝ }
+{
+    let mut q = [0i64; 11];
+    let mut i: usize = 0;
+    while i < 11 {
+        let y = earlier(&p, i, 1);
+        let z = earlier(&p, i, 2);
+        q[i] = term(c, p[i], y, z);
+        i += 1;
+    }
+    q
+}
+
+// The product of the five factors of every second LSP.
+fn expanded(lsp: [i16; 10], first: usize) -> [i64; 11]
+    requires { ⌜ first < 2 ⌝ }
+    ensures { λ r. ⌜ r ≡ tabulate (polynomial lsp first) 11 ⌝ }
+{
+    let mut p = [0i64; 11];
+    p[0] = tables::LPC_ONE_Q24;
+    let mut k: usize = 0;
+    while k < 5 {
+        let c = cos_q14(lsp[2 * k + first]);
+        let q = times_factor(p, c);
+        p = q;
+        k += 1;
+    }
+    p
+}
+
+// A coefficient from those of both polynomials at its own place, p1 and q1, and at the one before.
+fn rounded_q13(p1: i64, p0: i64, q1: i64, q0: i64) -> i16
+    requires { ⌜ Within (2 ^ 37) p1 ⌝ }
+    requires { ⌜ Within (2 ^ 37) p0 ⌝ }
+    requires { ⌜ Within (2 ^ 37) q1 ⌝ }
+    requires { ⌜ Within (2 ^ 37) q0 ⌝ }
+    ensures { λ r. ⌜ r ≡ roundedSum p1 p0 q1 q0 ⌝ }
+{
+    let sum = p1 + p0 + q1 - q0;
+    basicop::saturate(((1024 - (sum >> 1)) >> 11) as i32)
+}
+
+pub fn lsp_to_lpc_q13(lsp: [i16; 10]) -> [i16; 10]
+    ensures { λ r. ⌜ r ≡ coefficients lsp ⌝ }
+{
+    let pz = expanded(lsp, 0);
+    let qz = expanded(lsp, 1);
+    let mut a = [0i16; 10];
+    let mut j: usize = 0;
+    while j < 10 {
+        a[j] = rounded_q13(pz[j + 1], pz[j], qz[j + 1], qz[j]);
+        j += 1;
+    }
+    a
+}
+
+pub fn frame_lpc_q13(prev: [i16; 10], cur: [i16; 10]) -> [[i16; 10]; 4]
+    ensures { λ r. ⌜ r ≡ frameCoefficients prev cur ⌝ }
+{
+    let mut out = [[0i16; 10]; 4];
+    let mut k: usize = 0;
+    while k < 4 {
+        let lsp = lsp_interpolate(k, prev, cur);
+        let set = lsp_to_lpc_q13(lsp);
+        out[k] = set;
+        k += 1;
+    }
+    out
+}
+
+fn predicted_lsp(mean: i16, prev: i16) -> i16
+    ensures { λ r. ⌜ r ≡ predicted mean prev ⌝ }
+{
+    let pred = basicop::mult(basicop::sub(prev, mean), tables::LSP_PREDICTOR_BE_Q15);
+    basicop::add(mean, pred)
+}
+
+pub fn lsp_extrapolate(prev: [i16; 10]) -> [i16; 10]
+    ensures { λ r. ⌜ r ≡ extrapolated prev ⌝ }
+{
+    let dc = tables::lsp_dc();
+    let mut out = [0i16; 10];
+    let mut i: usize = 0;
+    while i < 10 {
+        out[i] = predicted_lsp(dc[i], prev[i]);
+        i += 1;
+    }
+    out
+}
