@@ -2,10 +2,13 @@
 """Prints the questions of crate answers, a line each, in a fixed order.
 
 Operators of two operands: all pairs of edge values and a spread of others; l_mac a selection of them. Roots: at squares and
-beside them. Pairs of words: products,
-multiples, shifts, orders and quotients at edges and over a spread.
+beside them. Pairs of words: products, multiples, shifts, orders and quotients at edges and over a spread. LSPs: by classes of
+vectors, and by the passes that stabilising them takes.
+
+With --counts it prints instead how many vectors of LSPs each class has.
 """
 import random
+import sys
 
 EDGES16 = [-32768, -32767, -16385, -16384, -16383, -257, -256, -2, -1, 0, 1, 2, 255, 256, 16383, 16384, 16385, 32766, 32767]
 EDGES32 = [-2147483648, -2147483647, -1073741825, -1073741824, -65537, -65536, -32769, -32768, -1, 0, 1, 32767, 32768, 65535, 65536, 1073741823, 1073741824, 2147450879, 2147450880, 2147483646, 2147483647]
@@ -14,11 +17,22 @@ EDGES64 = [-(2**63), -(2**63) + 1, -(2**32), -(2**31) - 1, -(2**31), -1, 0, 1, 2
 COUNTS = [-2147483647, -65536, -33, -32, -31, -17, -16, -15, -14, -13, -8, -1, 0, 1, 8, 13, 14, 15, 16, 17, 31, 32, 33, 65536, 2147483647]
 WORDS = [0, 1, 2, 2**31, 2**32 - 1, 2**32, 2**32 + 1, 2**63 - 1, 2**63, 2**64 - 2, 2**64 - 1]
 PAIRS = [0, 1, 2**32 - 1, 2**32, 2**63, 2**64 - 1, 2**64, 2**64 + 1, 2**96 - 1, 2**96, 2**127, 2**127 + 2**63, 2**128 - 2**64, 2**128 - 1]
+MEAN_LSPS = [3131, 4721, 7690, 10806, 13872, 16495, 19752, 22260, 25484, 27718]
+MINIMA = [256, 512]
+# What no frame asks for, and the function takes.
+OTHER_MINIMA = [-32768, -257, -1, 0, 1, 255, 257, 4000, 32767]
 SHIFTS = [0, 1, 2, 3, 24, 30, 31, 32, 33, 63, 64, 65, 96, 127, 128, 129, 4294967295]
 
 
+ASKED = set()
+
+
 def ask(name, *numbers):
-    print(name, *numbers)
+    """Prints a question, unless it was asked before."""
+    question = (name, *numbers)
+    if question not in ASKED:
+        ASKED.add(question)
+        print(*question)
 
 
 def two(n):
@@ -96,11 +110,153 @@ def wide(rng):
                 ask("wide_divide", *two(n), *two(d))
 
 
+def passes(lsps, minimum):
+    """How many of ten passes move something, and whether every gap is then met: to choose questions by, never to answer."""
+    p = list(lsps)
+    for n in range(10):
+        moved = False
+        for j in range(9):
+            if p[j + 1] - p[j] < minimum:
+                average = (p[j] + p[j + 1]) // 2
+                p[j], p[j + 1] = max(average - minimum // 2, -32768), min(average + minimum // 2, 32767)
+                moved = True
+        if not moved:
+            return n, True
+    return 10, all(p[j + 1] - p[j] >= minimum for j in range(9))
+
+
+def at_edge(rng, minimum):
+    """LSPs whose gaps are all near the minimum."""
+    start = rng.randrange(-2000, 30000)
+    return [min(start + i * minimum + rng.randrange(-20, 20), 32767) for i in range(10)]
+
+
+def by_passes(rng, minimum, wanted, count):
+    """Vectors that take so many passes with moves, and pass or not."""
+    found = []
+    while len(found) < count:
+        p = at_edge(rng, minimum)
+        if passes(p, minimum) == wanted:
+            found.append(p)
+    return found
+
+
+def ordered(rng):
+    return sorted(rng.randrange(32768) for _ in range(10))
+
+
+def near_means(rng):
+    return [mean + rng.randrange(-1500, 1500) for mean in MEAN_LSPS]
+
+
+def close(rng):
+    """All within a few hundred."""
+    start = rng.randrange(-32768, 32000)
+    return [start + rng.randrange(700) for _ in range(10)]
+
+
+def swapped(rng):
+    p = ordered(rng)
+    i = rng.randrange(9)
+    p[i], p[i + 1] = p[i + 1], p[i]
+    return p
+
+
+EXTREME = [
+    [-32768] * 10,
+    [32767] * 10,
+    [-32768, 32767] * 5,
+    [32767, -32768] * 5,
+    [-32768] * 5 + [32767] * 5,
+    [32767] * 5 + [-32768] * 5,
+    [-32768] * 9 + [32767],
+    [32767] + [-32768] * 9,
+    [0] * 10,
+    [-1] * 10,
+    [-5, 0] * 5,
+]
+
+
+# Where a floor decides a coefficient, as few vectors do: five by the halved sum, four by a product.
+FLOORED = [
+    [329, 1254, 1662, 1829, 6041, 11689, 14969, 20992, 23362, 26581],
+    [143, 4954, 5107, 7171, 8631, 14129, 17912, 25368, 28853, 29346],
+    [3880, 4425, 10869, 16867, 18371, 18847, 24024, 30070, 30199, 30312],
+    [1498, 1862, 4077, 5522, 7805, 14076, 15127, 16872, 27657, 28406],
+    [3263, 8326, 12719, 15325, 20811, 25840, 26002, 26434, 29537, 31729],
+    [156, 4843, 5040, 8082, 11090, 18776, 23816, 24980, 29993, 30791],
+    [1081, 4646, 7157, 11186, 15048, 19310, 25769, 27951, 28857, 31481],
+    [1185, 2982, 8139, 9096, 11469, 27684, 28207, 29241, 29646, 31632],
+    [553, 1604, 5277, 5938, 9706, 14046, 19526, 22462, 29020, 31269],
+]
+
+
+def classes(rng):
+    """Vectors of LSPs by class; those by passes are for one minimum each."""
+    found = {
+        "random": [[spread16(rng) for _ in range(10)] for _ in range(60)],
+        "ordered": [ordered(rng) for _ in range(60)],
+        "near the means": [near_means(rng) for _ in range(40)] + [MEAN_LSPS],
+        "swapped": [swapped(rng) for _ in range(40)],
+        "equal": [[v] * 10 for v in EDGES16],
+        "descending": [ordered(rng)[::-1] for _ in range(20)] + [list(range(9000, -1000, -1000))],
+        "close": [close(rng) for _ in range(20)],
+        "extreme": EXTREME,
+        "starred": [[1000, 1100] + list(range(2000, 10000, 1000))],
+    }
+    by_turns = {
+        "moved by one to eight passes": [(n, True) for n in range(1, 9)],
+        "moved by nine, so that the tenth finds none": [(9, True)],
+        "moved by all ten, and passed": [(10, True)],
+        "moved by all ten, and failed": [(10, False)],
+    }
+    for minimum in MINIMA:
+        for name, kinds in by_turns.items():
+            each = 5 if len(kinds) > 1 else 25
+            found[f"{name}, at {minimum}"] = [p for kind in kinds for p in by_passes(rng, minimum, kind, each)]
+    return found
+
+
+def lsps(rng):
+    for f in [-32768, -32767, -129, -128, -127, -5, -1] + [128 * i + r for i in range(256) for r in (0, 1, 64, 127)]:
+        ask("cos_q14", f)
+    by_class = classes(rng)
+    vectors = [p for found in by_class.values() for p in found]
+    plain = [p for name, found in by_class.items() if ", at" not in name for p in found]
+    for p in vectors:
+        for minimum in MINIMA:
+            ask("lsp_stability", minimum, *p)
+    for p in plain[::5] + EXTREME:
+        for minimum in OTHER_MINIMA:
+            ask("lsp_stability", minimum, *p)
+    for p in vectors[::2]:
+        ask("lsp_check_or_previous", rng.choice(MINIMA), *p, *rng.choice(plain))
+    for p in plain:
+        ask("lsp_extrapolate", *p)
+        ask("lsp_to_lpc_q13", *p)
+    for p in FLOORED + [ordered(rng) for _ in range(200)]:
+        ask("lsp_to_lpc_q13", *p)
+    pairs = [(a, b) for a in EXTREME for b in EXTREME] + [(rng.choice(plain), rng.choice(plain)) for _ in range(150)]
+    for a, b in pairs:
+        ask("frame_lpc_q13", *a, *b)
+    for a, b in pairs[::2]:
+        for k in (0, 1, 2, 3):
+            ask("lsp_interpolate", k, *a, *b)
+    for k in (4, 5, 32767):
+        ask("lsp_interpolate", k, *plain[0], *plain[1])
+
+
 def main():
     rng = random.Random(7231)
+    if "--counts" in sys.argv[1:]:
+        for name, found in classes(random.Random(7231)).items():
+            print(f"{len(found):4} {name}")
+        return
     operators(rng)
     roots(rng)
     wide(rng)
+    # A start of its own, so that --counts lists the vectors that are asked about.
+    lsps(random.Random(7231))
 
 
 if __name__ == "__main__":

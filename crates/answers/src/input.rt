@@ -12,7 +12,7 @@ struct Byte {
     cursor: Cursor,
 }
 
-// A word: its last eight bytes as one number, and what it is as a decimal number.
+// A word: a number that all its bytes go into, and what it is as a decimal number. No two names of questions have the same.
 pub(crate) struct Word {
     pub(crate) name: u64,
     pub(crate) negative: bool,
@@ -63,9 +63,9 @@ fn next_byte(buf: &mut [u8], c: Cursor) -> Byte {
     }
 }
 
-// A number of eight bytes without its first, with one more at its end.
-fn shifted_in(n: u64, b: u8) -> u64 {
-    (n % 0x100_0000_0000_0000) * 256 + b as u64
+// The number of a word with one byte more. Every byte counts, however long the word.
+fn appended(n: u64, b: u8) -> u64 {
+    (n % 0x80_0000_0000_0000) * 257 + b as u64
 }
 
 // The word with one byte more. A digit's last four bits are its value.
@@ -74,13 +74,13 @@ fn longer(w: Word, b: u8) -> Word {
     let size = std::num::wrapping_add_u64((w.size % 1_844_674_407_370_955_162) * 10, digit);
     if b == 45 {
         Word {
-            name: shifted_in(w.name, b),
+            name: appended(w.name, b),
             negative: true,
             size: w.size,
         }
     } else {
         Word {
-            name: shifted_in(w.name, b),
+            name: appended(w.name, b),
             negative: w.negative,
             size: size,
         }
@@ -113,8 +113,25 @@ pub(crate) fn name(text: &[u8]) -> u64 {
     let mut n: u64 = 0;
     let mut i = 0;
     while i < text.len() {
-        n = shifted_in(n, text[i]);
+        n = appended(n, text[i]);
         i += 1;
     }
     n
+}
+
+// The number of a word, or the nearest that fits.
+pub(crate) fn number64(w: Word) -> i64 {
+    if w.size > 0x7FFF_FFFF_FFFF_FFFF {
+        return if w.negative { i64::MIN } else { i64::MAX };
+    }
+    let n = w.size as i64;
+    if w.negative { 0 - n } else { n }
+}
+
+pub(crate) fn number32(w: Word) -> i32 {
+    basicop::sat32(number64(w))
+}
+
+pub(crate) fn number16(w: Word) -> i16 {
+    basicop::saturate(number32(w))
 }

@@ -2,6 +2,7 @@
 // line of decimal numbers. The file `stdin` has the questions and `stdout` the oracle's answers (tests/make-answers). A
 // question has one space between its words and numbers that fit; what else a line may hold is not looked for.
 mod input;
+mod lsps;
 mod operators;
 mod output;
 mod pairs;
@@ -17,6 +18,9 @@ fn question(buf: &mut [u8], c: Cursor) -> Cursor {
     }
     let w = named.word;
     let n = w.name;
+    if lsps::is_lsp(n) {
+        return lsps::answer(buf, n, k);
+    }
     let first = input::next_word(buf, k);
     if pairs::is_pair(n) {
         return pairs::answer(buf, n, first);

@@ -4,27 +4,13 @@ use crate::input::Read;
 use crate::input::Word;
 use crate::input::name;
 use crate::input::next_word;
+use crate::input::number16;
+use crate::input::number32;
+use crate::input::number64;
 use crate::output::print16;
 use crate::output::print32;
 use crate::output::print64;
 use crate::output::unknown;
-
-// The number of a word, or the nearest that fits.
-fn number64(w: Word) -> i64 {
-    if w.size > 0x7FFF_FFFF_FFFF_FFFF {
-        return if w.negative { i64::MIN } else { i64::MAX };
-    }
-    let n = w.size as i64;
-    if w.negative { 0 - n } else { n }
-}
-
-fn number32(w: Word) -> i32 {
-    basicop::sat32(number64(w))
-}
-
-fn number16(w: Word) -> i16 {
-    basicop::saturate(number32(w))
-}
 
 // Two 16-bit operands.
 fn binary16(n: u64, a: i16, b: i16) {

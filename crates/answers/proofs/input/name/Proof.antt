@@ -13,11 +13,11 @@ abbrev μ-loop : tie.MeasureT-loop
 loop-holds : tie.Need-loop-holds Inv-loop μ-loop
 loop-holds c = search needs
 
-shared-slice-read-shifted-in : tie.Need-shared-slice-read-shifted-in Inv-loop μ-loop
-shared-slice-read-shifted-in c = search needs
+shared-slice-read-appended : tie.Need-shared-slice-read-appended Inv-loop μ-loop
+shared-slice-read-appended c = search needs
 
-shifted-in-requires : tie.Need-shifted-in-requires Inv-loop μ-loop
-shifted-in-requires c κs = search needs
+appended-requires : tie.Need-appended-requires Inv-loop μ-loop
+appended-requires c κs = search needs
 
 add-i : tie.Need-add-i Inv-loop μ-loop
 add-i c = search needs
@@ -38,8 +38,8 @@ name-spec =
     Inv-loop
     μ-loop
     loop-holds
-    shared-slice-read-shifted-in
-    shifted-in-requires
+    shared-slice-read-appended
+    appended-requires
     add-i
     loop-less
     loop-again

@@ -7,8 +7,8 @@ use mir.Val.{SFits, toZ}
 use mir.Facts.{toZ-ofZ}
 use borrow.Author.Needs.{needs}
 use Rattle.integers.specs.Bound.{mag-abs, within-num, within-sub}
-use Rattle.answers.proofs.operators.number64.Statement.{statement}
-use Rattle.answers.proofs.operators.number64.Tie as tie
+use Rattle.answers.proofs.input.number64.Statement.{statement}
+use Rattle.answers.proofs.input.number64.Tie as tie
 
 minus-fits : (n : ℕ) → n < 2 ^ 63 → SFits w64 (pos 0 -ℤ toZ w64 n)
 minus-fits n h =

@@ -1,0 +1,59 @@
+use mathlib.Core.Path.{_≡_}
+use Prim.Native.Nat.{_-_, _≤_}
+use borrow.Author.Needs.{needs}
+use lib.ListN.{length}
+use Rattle.answers.proofs.lsps.next_ten.Statement.{statement}
+use Rattle.answers.proofs.lsps.next_ten.Tie as tie
+
+abbrev Inv-loop : tie.InvT-loop
+Inv-loop buf₀ values₀ k₀ i₀ buf values k i = (i ≤ 10) × (length buf ≡ length buf₀)
+
+abbrev μ-loop : tie.MeasureT-loop
+μ-loop buf₀ values₀ k₀ i₀ buf values k i = 10 - i
+
+loop-holds : tie.Need-loop-holds Inv-loop μ-loop
+loop-holds c = search needs
+
+next-word-requires : tie.Need-next-word-requires Inv-loop μ-loop
+next-word-requires c κs = search needs
+
+number16-requires : tie.Need-number16-requires Inv-loop μ-loop
+number16-requires c κs = search needs
+
+mul-values : tie.Need-mul-values Inv-loop μ-loop
+mul-values c = search needs
+
+array-set-from-values : tie.Need-array-set-from-values Inv-loop μ-loop
+array-set-from-values c = search needs
+
+add-i : tie.Need-add-i Inv-loop μ-loop
+add-i c = search needs
+
+loop-less : tie.Need-loop-less Inv-loop μ-loop
+loop-less c = search needs
+
+loop-again : tie.Need-loop-again Inv-loop μ-loop
+loop-again c = search needs
+
+same-length : tie.Need-same-length Inv-loop μ-loop
+same-length c = search needs
+
+returns : tie.Need-returns Inv-loop μ-loop
+returns c = search needs
+
+pub next-ten-spec : {M : Type 1} → statement M
+next-ten-spec =
+    tie.close
+    (tie.spec
+    Inv-loop
+    μ-loop
+    loop-holds
+    next-word-requires
+    number16-requires
+    mul-values
+    array-set-from-values
+    add-i
+    loop-less
+    loop-again
+    same-length
+    returns)
