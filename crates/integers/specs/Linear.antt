@@ -1,10 +1,10 @@
 -- Linear arithmetic on integers by `omega`: an integer is `up z - down z`.
 -- `omega (line, line-add a b, ..)` proves an order or an equation of ℤ from those in reach, with one listed fact for each sum, difference, negation, multiple by a literal and floor quotient that stands in them.
-use mathlib.Core.Path.{_≡_, refl, sym, ap, subst}
+use mathlib.Core.Path.{_≡_, refl, sym, ap, _∙_, subst}
 use mathlib.Core.Bool.{Bool, true, false, not}
 use mathlib.Core.Logic.{_⊎_, inl, inr, ⊎-elim}
 use Prim.Native.Nat.{ℕ, zero, suc, _+_, _-_, _*_, _^_, _≤_, _<_}
-use native.Mathlib.Nat.{lt-of-le-of-lt, mul-div-le, lt-mul-div-succ}
+use native.Mathlib.Nat.{lt-of-le-of-lt, mul-assoc, zero-mul, mul-div-le, lt-mul-div-succ}
 use native.Mathlib.Omega.{arith}
 use lib.Dec.{T, leb, ltb, leb→le, le→leb, ltb→lt, lt→ltb, nltb→le}
 use lib.IntN.{ℤ, pos, negsuc, natAbs, negℤ, subℕ, _+ℤ_, _-ℤ_, _*ℤ_}
@@ -43,6 +43,15 @@ line-mul (negsuc a) k = negated (suc a * k)
     negated : (n : ℕ) → up (negℤ (pos n)) + n ≡ down (negℤ (pos n)) + 0 * k
     negated zero = omega arith
     negated (suc n) = omega arith
+
+-- a multiple by a product, by its parts
+pub mul-pos : (z : ℤ) (m n : ℕ) → z *ℤ pos (m * n) ≡ z *ℤ pos m *ℤ pos n
+mul-pos (pos a) m n = ap pos (sym (mul-assoc a m n))
+mul-pos (negsuc a) m n = ap (λ (k : ℕ). negℤ (pos k)) (sym (mul-assoc (suc a) m n)) ∙ negated (suc a * m)
+  where
+    negated : (k : ℕ) → negℤ (pos (k * n)) ≡ negℤ (pos k) *ℤ pos n
+    negated zero = ap (λ (k : ℕ). negℤ (pos k)) (zero-mul n) ∙ sym (ap pos (zero-mul n))
+    negated (suc k) = refl
 
 -- a floor quotient by a literal: `line-shr x 16 (lit≤ tt)`
 pub line-shr : (z : ℤ) (m : ℕ) → 0 < m → (m * up (shrZ z m) + down z ≤ up z + m * down (shrZ z m)) × (up z + m * down (shrZ z m) < m * up (shrZ z m) + down z + m)

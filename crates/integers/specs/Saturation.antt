@@ -1,11 +1,11 @@
 -- Laws of saturation, for every width at once.
 use mathlib.Core.Path.{_≡_, sym, ap, _∙_, subst}
 use mathlib.Core.Bool.{true, false}
-use Prim.Native.Nat.{ℕ, _^_, _≤_, min}
+use Prim.Native.Nat.{ℕ, _+_, _^_, _≤_, min}
 use native.Mathlib.Nat.{lt-of-le-of-lt}
 use native.Mathlib.Omega.{arith}
 use borrow.Author.Tests.{ltb-true, ltb-false}
-use lib.Dec.{T, ltb, ltb→lt}
+use lib.Dec.{T, leb, ltb, leb→le, ltb→lt}
 use lib.IntN.{ℤ, pos, negsuc, natAbs, _-ℤ_}
 use lib.Signed.{mag, ltZ}
 use mir.Syntax.{Width}
@@ -60,6 +60,10 @@ module _ (M : ℕ) where
   pub saturated-between : (z : ℤ) → ltZ (pos M) z ≡ false → ltZ z (negsuc M) ≡ false → mag z ≤ M
   saturated-between (pos n) h k = ltb-false M n h
   saturated-between (negsuc n) h k = ltb-false M n k
+
+-- a number of a type whose largest is at most M: `saturated-same 32767 f tt`
+pub saturated-same : {w : Width} (M : ℕ) {z : ℤ} → SFits w z → T (leb (2 ^ hbits w) (M + 1)) → saturated M z ≡ z
+saturated-same {w} M {z} f t = saturated-id M z (omega (arith, f .sfits, leb→le (2 ^ hbits w) (M + 1) t))
 
 -- fits the type whose largest number is M: `saturated-fits 32767 z tt`
 pub saturated-fits : {w : Width} (M : ℕ) (z : ℤ) → T (ltb M (2 ^ hbits w)) → SFits w (saturated M z)

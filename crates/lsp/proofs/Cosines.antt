@@ -1,19 +1,18 @@
 -- Laws of the interpolated cosine: its size, and that none of the operators that make it saturates.
-use mathlib.Core.Path.{_≡_, refl, sym, ap, _∙_, subst}
+use mathlib.Core.Path.{_≡_, refl, ap, _∙_, subst}
 use mathlib.Core.Bool.{true, false}
-use Prim.Native.Nat.{ℕ, zero, suc, _+_, _*_, _/_, _%_, _^_, _≤_, _<_}
-use native.Mathlib.Nat.{le-trans, mul-assoc}
+use Prim.Native.Nat.{ℕ, _+_, _*_, _/_, _%_, _^_, _≤_, _<_}
 use native.Mathlib.Omega.{arith}
 use lib.Dec.{T, lit≤}
-use lib.IntN.{ℤ, pos, negsuc, natAbs, negℤ, _+ℤ_, _-ℤ_, _*ℤ_}
+use lib.IntN.{ℤ, pos, negsuc, natAbs, _+ℤ_, _-ℤ_, _*ℤ_}
 use lib.Signed.{ltZ}
 use mir.Syntax.{w16}
 use mir.Val.{SFits}
 use Rattle.integers.specs.Base.{floorDiv, entry, up, Within}
-use Rattle.integers.specs.Bound.{within-add, within-mul, within-le, within-shr-by, mag-abs}
+use Rattle.integers.specs.Bound.{fits-within, within-add, within-mul, within-le, within-shr-by}
 use Rattle.integers.specs.Natural.{none-below-zero}
-use Rattle.integers.specs.Linear.{line, line-mul, line-shr, line-fits}
-use Rattle.integers.specs.Saturation.{saturated-id}
+use Rattle.integers.specs.Linear.{mul-pos, line, line-mul, line-shr, line-fits}
+use Rattle.integers.specs.Saturation.{saturated-same}
 use Rattle.tables.specs.Tables.{cosines}
 use Rattle.tables.specs.Rules.{cosine-rule}
 use Rattle.basicop.specs.Operators.{word16, add16, sub16, mult16, shl16}
@@ -52,30 +51,19 @@ cosine-within f h = between-within (up f / 128) (up f % 128) (index f h) (omega 
 
 -- ---- the operators
 
-word16-within : {z : ℤ} → Within 32767 z → word16 z ≡ z
-word16-within {z} h = saturated-id 32767 z (le-trans (mag-abs z) (h .within))
-
-mul-256 : (d : ℤ) (r : ℕ) → d *ℤ pos (r * 256) ≡ d *ℤ pos r *ℤ pos 256
-mul-256 (pos a) r = ap pos (sym (mul-assoc a r 256))
-mul-256 (negsuc a) r = ap (λ (n : ℕ). negℤ (pos n)) (sym (mul-assoc (suc a) r 256)) ∙ negated (suc a * r)
-  where
-    negated : (n : ℕ) → negℤ (pos (n * 256)) ≡ negℤ (pos n) *ℤ pos 256
-    negated zero = refl
-    negated (suc n) = refl
-
 floor-256 : (z : ℤ) → floorDiv (z *ℤ pos 256) (2 ^ 15) ≡ floorDiv z 128
 floor-256 z = omega (line, line-mul z 256, line-shr (z *ℤ pos 256) 32768 (lit≤ tt), line-shr z 128 (lit≤ tt))
 
 module _ (b n : ℤ) (r : ℕ) (size : Within 16384 b) (near : Within 201 (n -ℤ b)) (h : r < 128) where
   moved : mult16 (sub16 n b) (shl16 (pos r) (pos 8)) ≡ floorDiv ((n -ℤ b) *ℤ pos r) 128
   moved =
-      let d : sub16 n b ≡ n -ℤ b = word16-within (within-le near (lit≤ tt)) in
-      let t : shl16 (pos r) (pos 8) ≡ pos (r * 256) = word16-within {z = pos (r * 256)} (record { within = omega arith }) in
-      let q : floorDiv ((n -ℤ b) *ℤ pos (r * 256)) (2 ^ 15) ≡ floorDiv ((n -ℤ b) *ℤ pos r) 128 = ap (λ (z : ℤ). floorDiv z (2 ^ 15)) (mul-256 (n -ℤ b) r) ∙ floor-256 ((n -ℤ b) *ℤ pos r) in
-      (λ i. mult16 (d i) (t i)) ∙ ap (λ (z : ℤ). word16 z) q ∙ word16-within (within-le (step-within (n -ℤ b) r near h) (lit≤ tt))
+      let d : sub16 n b ≡ n -ℤ b = saturated-same {w = w16} 32767 (fits-within near tt) tt in
+      let t : shl16 (pos r) (pos 8) ≡ pos (r * 256) = saturated-same {w = w16} 32767 {z = pos (r * 256)} (record { sfits = omega arith }) tt in
+      let q : floorDiv ((n -ℤ b) *ℤ pos (r * 256)) (2 ^ 15) ≡ floorDiv ((n -ℤ b) *ℤ pos r) 128 = ap (λ (z : ℤ). floorDiv z (2 ^ 15)) (mul-pos (n -ℤ b) r 256) ∙ floor-256 ((n -ℤ b) *ℤ pos r) in
+      (λ i. mult16 (d i) (t i)) ∙ ap (λ (z : ℤ). word16 z) q ∙ saturated-same {w = w16} 32767 (fits-within (step-within (n -ℤ b) r near h) tt) tt
 
   operators : add16 b (mult16 (sub16 n b) (shl16 (pos r) (pos 8))) ≡ b +ℤ floorDiv ((n -ℤ b) *ℤ pos r) 128
-  operators = ap (λ (z : ℤ). add16 b z) moved ∙ word16-within (within-le (within-add size (step-within (n -ℤ b) r near h)) (lit≤ tt))
+  operators = ap (λ (z : ℤ). add16 b z) moved ∙ saturated-same {w = w16} 32767 (fits-within (within-add size (step-within (n -ℤ b) r near h)) tt) tt
 
 -- as the code has them
 pub cosine-operators :

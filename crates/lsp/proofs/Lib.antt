@@ -1,3 +1,4 @@
+pub mod Blends
 pub mod Cosines
 pub mod Products
 pub mod Values

@@ -78,20 +78,20 @@ module _ (m : ℤ) (p : List ℤ) where
 -- ---- passes
 
 module _ (m : ℤ) where
-  passes-spaced : (n : ℕ) (p : List ℤ) → passes m n p .passed ≡ true → Spaced m (passes m n p .lsps)
+  passes-tested : (n : ℕ) (p : List ℤ) → passes m n p .passed ≡ not (anyShort m (passes m n p .lsps))
   unfolding passes
-  passes-spaced zero p e = spaced-short m p (not-true (anyShort m p) e)
-  passes-spaced (suc n) p e = decided (passMoves m p) refl (passes-spaced n (pass m p)) e
+  passes-tested zero p = refl
+  passes-tested (suc n) p = decided (passMoves m p) refl (passes-tested n (pass m p))
     where
       last : Stabilised
       last = record { lsps = pass m p; passed = true }
 
       decided :
           (b : Bool) → passMoves m p ≡ b →
-          (passes m n (pass m p) .passed ≡ true → Spaced m (passes m n (pass m p) .lsps)) →
-          cond b (passes m n (pass m p)) last .passed ≡ true → Spaced m (cond b (passes m n (pass m p)) last .lsps)
-      decided true e f = f
-      decided false e f = λ t. subst (Spaced m) (sym (spaced-same m p (unmoved-spaced m p e))) (spaced-short m p (unmoved-spaced m p e))
+          passes m n (pass m p) .passed ≡ not (anyShort m (passes m n (pass m p) .lsps)) →
+          cond b (passes m n (pass m p)) last .passed ≡ not (anyShort m (cond b (passes m n (pass m p)) last .lsps))
+      decided true e t = t
+      decided false e t = let u = unmoved-spaced m p e in sym (ap (λ (q : List ℤ). not (anyShort m q)) (spaced-same m p u) ∙ ap not u)
 
   passes-unchanged : (n : ℕ) (p : List ℤ) → anyShort m p ≡ false → passes m n p ≡ record { lsps = p; passed = true }
   unfolding passes
@@ -101,9 +101,13 @@ module _ (m : ℤ) where
 -- ---- the theorems
 
 module _ (m : ℤ) (p : List ℤ) where
-  -- LSPs that passed have every gap at or above the minimum
+  -- LSPs passed exactly where none of their gaps is short
+  pub passed-tested : stabilised m p .passed ≡ not (anyShort m (stabilised m p .lsps))
+  passed-tested = passes-tested m stabilityPasses p
+
+  -- so those that passed have every gap at or above the minimum
   pub passed-spaced : stabilised m p .passed ≡ true → Spaced m (stabilised m p .lsps)
-  passed-spaced = passes-spaced m stabilityPasses p
+  passed-spaced e = spaced-short m (stabilised m p .lsps) (not-true (anyShort m (stabilised m p .lsps)) (sym passed-tested ∙ e))
 
   -- LSPs that have their gaps pass, and are not changed
   pub spaced-unchanged : Spaced m p → stabilised m p ≡ record { lsps = p; passed = true }

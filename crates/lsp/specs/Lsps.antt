@@ -7,9 +7,9 @@ use lib.IntN.{ℤ, pos, _+ℤ_, _-ℤ_, _*ℤ_}
 use lib.ListN.{set}
 use lib.Signed.{ltZ, quotZ}
 use Rattle.integers.specs.Base.{floorDiv, entry, tabulate, up}
-use Rattle.tables.specs.Constants.{lpcOrder, subframesPerFrame, stabilityPasses, lspPredictorErased, quarter, half, threeQuarters, polynomialOne}
+use Rattle.tables.specs.Constants.{lpcOrder, subframesPerFrame, stabilityPasses, lspPredictorErased, polynomialOne}
 use Rattle.tables.specs.Tables.{cosines, meanLsps}
-use Rattle.basicop.specs.Operators.{word16, add16, sub16, mult16, mult32, mac32, rounded16}
+use Rattle.basicop.specs.Operators.{word16, add16, sub16, mult16}
 use Rattle.lsp.specs.declared.Stabilised.{Stabilised}
 
 -- ---- stabilising (lsp_stability; §2.6, step 3)
@@ -65,19 +65,19 @@ checkOrPrevious m candidates previous = cond (stabilised m candidates .passed) (
 
 -- ---- interpolation (lsp_interpolate; §2.7)
 
--- a previous and a current LSP by their weights a and b in 32768ths, rounded
-abbrev pub weightedSum : ℤ → ℤ → ℤ → ℤ → ℤ
-weightedSum a b previous current = rounded16 (mac32 (mult32 previous a) current b)
+-- a previous and a current LSP in a:b of four parts, rounded
+abbrev pub weightedMean : ℕ → ℕ → ℤ → ℤ → ℤ
+weightedMean a b previous current = floorDiv (previous *ℤ pos a +ℤ current *ℤ pos b +ℤ pos 2) 4
 
 -- all ten
-abbrev pub blend : ℤ → ℤ → List ℤ → List ℤ → List ℤ
-blend a b previous current = tabulate (λ i. weightedSum a b (entry previous i) (entry current i)) lpcOrder
+abbrev pub blend : ℕ → ℕ → List ℤ → List ℤ → List ℤ
+blend a b previous current = tabulate (λ i. weightedMean a b (entry previous i) (entry current i)) lpcOrder
 
--- those of subframe k, previous to current 3:1, 1:1 and 1:3, and then the current ones
+-- those of subframe k: 3:1, 1:1 and 1:3, and then the current ones
 abbrev pub interpolated : ℕ → List ℤ → List ℤ → List ℤ
-interpolated zero previous current = blend (pos threeQuarters) (pos quarter) previous current
-interpolated (suc zero) previous current = blend (pos half) (pos half) previous current
-interpolated (suc (suc zero)) previous current = blend (pos quarter) (pos threeQuarters) previous current
+interpolated zero previous current = blend 3 1 previous current
+interpolated (suc zero) previous current = blend 2 2 previous current
+interpolated (suc (suc zero)) previous current = blend 1 3 previous current
 interpolated (suc (suc (suc k))) previous current = current
 
 -- ---- coefficients (cos_q14, lsp_to_lpc_q13, frame_lpc_q13; §2.7)

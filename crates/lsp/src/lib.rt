@@ -5,7 +5,8 @@ ghost use Prim.Native.Nat.{_<_, _^_};
 ghost use lib.IntN.{_+ℤ_, _-ℤ_};
 ghost use lib.Signed.{ltZ};
 ghost use Rattle.integers.specs.Base.{floorDiv, entry, tabulate, up, Within, AllWithin};
-ghost use Rattle.lsp.specs.Lsps.{short, spread, pass, passMoves, anyShort, stabilised, checkOrPrevious, weightedSum, blend, interpolated, cosine, delayed, factorTerm, timesFactor, polynomial, roundedSum, coefficients, frameCoefficients, predicted, extrapolated};
+ghost use Rattle.basicop.specs.Operators.{mult32, mac32, rounded16};
+ghost use Rattle.lsp.specs.Lsps.{short, spread, pass, passMoves, anyShort, stabilised, checkOrPrevious, interpolated, cosine, delayed, factorTerm, timesFactor, polynomial, roundedSum, coefficients, frameCoefficients, predicted, extrapolated};
 
 // The LSPs after stabilising, and whether every gap is then at least the minimum.
 pub struct Stabilised {
@@ -120,15 +121,15 @@ pub fn lsp_check_or_previous(cand: [i16; 10], prev: [i16; 10], minimum: i16) -> 
     if s.passed { s.lsps } else { prev }
 }
 
-// Previous and current LSPs, by their weights in 32768ths.
+// A previous and a current LSP by their weights in 32768ths.
 fn weighed(wp: i16, wc: i16, prev: i16, cur: i16) -> i16
-    ensures { λ r. ⌜ r ≡ weightedSum wp wc prev cur ⌝ }
+    ensures { λ r. ⌜ r ≡ rounded16 (mac32 (mult32 prev wp) cur wc) ⌝ }
 {
     basicop::round16(basicop::l_mac(basicop::l_mult(prev, wp), cur, wc))
 }
 
 fn blended(wp: i16, wc: i16, prev: [i16; 10], cur: [i16; 10]) -> [i16; 10]
-    ensures { λ r. ⌜ r ≡ blend wp wc prev cur ⌝ }
+    ensures { λ r. ⌜ r ≡ tabulate (λ i. rounded16 (mac32 (mult32 (entry prev i) wp) (entry cur i) wc)) 10 ⌝ }
 {
     let mut out = [0i16; 10];
     let mut i: usize = 0;

@@ -5,14 +5,14 @@ use mir.Syntax.{w16}
 use mir.Val.{toZ, ofZ}
 use mir.Facts.{toZ-ofZ}
 use Rattle.integers.specs.Signed.{read-back, back}
-use Rattle.integers.specs.Base.{Fills, entry}
+use Rattle.integers.specs.Base.{Fills, entry, tabulate}
 use Rattle.integers.specs.Fill.{fills-start, fills-next, fills-end}
-use Rattle.lsp.specs.Lsps.{weightedSum, blend}
+use Rattle.basicop.specs.Operators.{mult32, mac32, rounded16}
 use Rattle.lsp.proofs.blended.Statement.{statement}
 use Rattle.lsp.proofs.blended.Tie as tie
 
 abbrev Inv-loop : tie.InvT-loop
-Inv-loop wp wc prev cur out₀ i₀ out i = Fills (λ k. weightedSum (toZ w16 wp) (toZ w16 wc) (entry prev k) (entry cur k)) 10 out i
+Inv-loop wp wc prev cur out₀ i₀ out i = Fills (λ k. rounded16 (mac32 (mult32 (entry prev k) (toZ w16 wp)) (entry cur k) (toZ w16 wc))) 10 out i
 
 abbrev μ-loop : tie.MeasureT-loop
 μ-loop wp wc prev cur out₀ i₀ out i = 10 - i
@@ -54,12 +54,14 @@ loop-again c =
     let k = l .loop .i in
     let p = read-back w16 (entry (a .t3) k) (c .before .before .weighed-arg .given) in
     let q = read-back w16 (entry (a .t4) k) (c .before .weighed-arg2 .given) in
-    fills-next (l .loop .inv) (omega arith) (back w16 (c .weighed .ok) (c .weighed .ensures ∙ (λ j. weightedSum (toZ w16 (ofZ w16 (a .wp))) (toZ w16 (ofZ w16 (a .wc))) (p j) (q j))))
+    fills-next (l .loop .inv) (omega arith) (back w16 (c .weighed .ok) (c .weighed .ensures ∙ (λ j. rounded16 (mac32 (mult32 (p j) (toZ w16 (ofZ w16 (a .wp)))) (q j) (toZ w16 (ofZ w16 (a .wc)))))))
 
 returns : tie.Need-returns Inv-loop μ-loop
 returns c =
     let s = c .before .before in
-    fills-end (c .before .loop .inv) (omega arith) ∙ (λ j. blend (toZ-ofZ {w = w16} (s .fits .wp) j) (toZ-ofZ {w = w16} (s .fits .wc) j) (s .args .t3) (s .args .t4))
+    let wp = toZ-ofZ {w = w16} (s .fits .wp) in
+    let wc = toZ-ofZ {w = w16} (s .fits .wc) in
+    fills-end (c .before .loop .inv) (omega arith) ∙ (λ j. tabulate (λ i. rounded16 (mac32 (mult32 (entry (s .args .t3) i) (wp j)) (entry (s .args .t4) i) (wc j))) 10)
 
 pub blended-spec : {M : Type 1} → statement M
 blended-spec =
