@@ -131,6 +131,9 @@ nltZ-in a b e = nlt-in a b (subst (λ (t : Bool). T (not t)) (sym e) tt)
 
 pub ruleset line = (arith, ≤-in, ≤-out, <-in, <-out, ≡-in, ≡-out, ltZ-in, nltZ-in)
 
+pub add-cancel : (a b c : ℤ) → a +ℤ c ≡ b +ℤ c → a ≡ b
+add-cancel a b c e = omega (line, line-add a c, line-add b c)
+
 -- ---- floorDiv is the floor
 
 pub floor-le : (z : ℤ) (m : ℕ) → 0 < m → (floorDiv z m *ℤ pos m) ≤ℤ z

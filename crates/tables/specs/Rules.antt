@@ -2,15 +2,16 @@
 use mathlib.Core.Path.{_≡_, refl, sym, ap, _∙_}
 use mathlib.Core.Bool.{Bool, cond, _&&_}
 use mathlib.Core.List.{List, [], _∷_}
+use mathlib.Core.Logic.{⊎-elim}
 use Prim.Native.Nat.{ℕ, zero, suc, _+_, _-_, _*_, _/_, _%_, _≤_, _<_}
 use native.Mathlib.Omega.{arith}
-use borrow.Author.Tests.{lt-ltb}
 use lib.Dec.{leb, ltb, eqb, leb→le, ltb→lt, eqb→eq}
 use lib.IntN.{ℤ, pos, natAbs, _-ℤ_}
-use lib.ListN.{getD}
+use lib.ListN.{getD, List·getD-eq-default}
 use Rattle.integers.specs.Base.{every, entry, Within}
+use Rattle.integers.specs.Natural.{le-or-lt}
 use Rattle.integers.specs.Table.{every-at, and-left, and-right}
-use Rattle.tables.specs.Tables.{cosines, gains, weights, weight}
+use Rattle.tables.specs.Tables.{cosines, gains, weights}
 
 -- ---- cosines: none is above 16384 in size, and the next one in the period is at most 201 away
 
@@ -62,6 +63,11 @@ gain-rule k h =
 pub gain-distinct : (i j : ℕ) → i < 24 → j < 24 → getD gains i 0 ≡ getD gains j 0 → i ≡ j
 gain-distinct i j hi hj e = sym (gain-rule i hi .placed) ∙ ap (place gains) e ∙ gain-rule j hj .placed
 
+-- no gain is above 6623, at any index
+pub gain-most : (k : ℕ) → getD gains k 0 ≤ 6623
+unfolding gains
+gain-most k = ⊎-elim (λ (h : 24 ≤ k). omega (arith, List·getD-eq-default gains 0 h)) (λ (h : k < 24). gain-rule k h .at-most) (le-or-lt 24 k)
+
 pub gain-largest : getD gains 23 0 ≡ 6623
 unfolding gains
 gain-largest = refl
@@ -81,9 +87,9 @@ binomial-at : (k : ℕ) → k < 180 → getD weights k 0 ≡ choose (29 - k % 30
 unfolding weights every weightTest choose
 binomial-at k h = eqb→eq (getD weights k 0) (choose (29 - k % 30) (5 - k / 30)) (every-at weightTest weights tt k h 0)
 
-pub weight-rule : (m i : ℕ) → m < 6 → i < 30 → weight m i ≡ choose (29 - i) (5 - m)
+pub weight-rule : (m i : ℕ) → m < 6 → i < 30 → getD weights (m * 30 + i) 0 ≡ choose (29 - i) (5 - m)
 weight-rule m i hm hi =
     let a : (m * 30 + i) % 30 ≡ i = omega arith in
     let b : (m * 30 + i) / 30 ≡ m = omega arith in
     let e : getD weights (m * 30 + i) 0 ≡ choose (29 - (m * 30 + i) % 30) (5 - (m * 30 + i) / 30) = binomial-at (m * 30 + i) (omega arith) in
-    rw (lt-ltb m 6 hm, lt-ltb i 30 hi) (rw (a, b) at e)
+    rw (a, b) at e

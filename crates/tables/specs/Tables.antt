@@ -1,10 +1,7 @@
 -- The tables of the decoder (document 01; the Rust's spec_tables.rs). Clauses are those of G.723.1 that the Rust names at the table and, where it differs, at its use.
-use mathlib.Core.Bool.{cond, _&&_}
 use mathlib.Core.List.{List, [], _∷_}
-use Prim.Native.Nat.{ℕ, _+_, _*_}
-use lib.Dec.{ltb}
+use Prim.Native.Nat.{ℕ}
 use lib.IntN.{ℤ, pos, negsuc}
-use lib.ListN.{getD}
 
 -- one period of the cosine in 512 steps, in 16384ths (LSP_COSINE_LOOKUP_Q15; §2.5, used in §2.7)
 unfoldable pub cosines : List ℤ
@@ -61,10 +58,6 @@ weights =
     406 ∷ 378 ∷ 351 ∷ 325 ∷ 300 ∷ 276 ∷ 253 ∷ 231 ∷ 210 ∷ 190 ∷ 171 ∷ 153 ∷ 136 ∷ 120 ∷ 105 ∷ 91 ∷ 78 ∷ 66 ∷ 55 ∷ 45 ∷ 36 ∷ 28 ∷ 21 ∷ 15 ∷ 10 ∷ 6 ∷ 3 ∷ 1 ∷ 0 ∷ 0 ∷
     29 ∷ 28 ∷ 27 ∷ 26 ∷ 25 ∷ 24 ∷ 23 ∷ 22 ∷ 21 ∷ 20 ∷ 19 ∷ 18 ∷ 17 ∷ 16 ∷ 15 ∷ 14 ∷ 13 ∷ 12 ∷ 11 ∷ 10 ∷ 9 ∷ 8 ∷ 7 ∷ 6 ∷ 5 ∷ 4 ∷ 3 ∷ 2 ∷ 1 ∷ 0 ∷
     1 ∷ 1 ∷ 1 ∷ 1 ∷ 1 ∷ 1 ∷ 1 ∷ 1 ∷ 1 ∷ 1 ∷ 1 ∷ 1 ∷ 1 ∷ 1 ∷ 1 ∷ 1 ∷ 1 ∷ 1 ∷ 1 ∷ 1 ∷ 1 ∷ 1 ∷ 1 ∷ 1 ∷ 1 ∷ 1 ∷ 1 ∷ 1 ∷ 1 ∷ 1 ∷ []
-
--- the weight in row m, column i; 0 outside the six rows and thirty columns
-abbrev pub weight : ℕ → ℕ → ℕ
-weight m i = cond (ltb m 6 && ltb i 30) (getD weights (m * 30 + i) 0) 0
 
 -- zeros and poles of the formant postfilter, in 32768ths (POSTFILTER_ZERO_Q15, POSTFILTER_POLE_Q15; §2.18, used in §3.8)
 unfoldable pub postfilterZeros : List ℤ

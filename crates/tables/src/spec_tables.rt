@@ -1,10 +1,10 @@
-// The tables of the decoder, as the Rust's spec_tables.rs has them, and functions that read them at any index. Clauses are
-// those of G.723.1 that the Rust names at the table and, where it differs, at its use.
+// The tables of the decoder, as the Rust's spec_tables.rs has them, and functions that read them at any index or hand them
+// out. Clauses are those of G.723.1 that the Rust names at the table and, where it differs, at its use.
 ghost use mathlib.Core.Path.{_≡_};
 ghost use lib.IntN.{pos};
 ghost use lib.ListN.{getD};
 ghost use Rattle.integers.specs.Base.{entry};
-ghost use Rattle.tables.specs.Tables.{cosines, meanLsps, gains, weight, postfilterZeros, postfilterPoles};
+ghost use Rattle.tables.specs.Tables.{cosines, meanLsps, gains, weights, postfilterZeros, postfilterPoles};
 
 // One period of the cosine, in 16384ths (§2.5; used in §2.7).
 const LSP_COSINE_LOOKUP_Q15: [i16; 512] = [
@@ -789,16 +789,11 @@ pub fn fixed_codebook_gain(index: u8) -> i16
     }
 }
 
-// The weight of a row and column; 0 outside the table, as the Rust's caller reads it.
-pub fn mpmlq_combinatorial(row: usize, column: usize) -> u32
-    ensures { λ r. ⌜ r ≡ weight row column ⌝ }
+// All of them at once: a constant table is made anew where it is read, and a walk reads up to thirty weights.
+pub fn mpmlq_weights() -> [u32; 180]
+    ensures { λ r. ⌜ r ≡ weights ⌝ }
 {
-    if row < 6 {
-        if column < 30 {
-            return MPMLQ_COMBINATORIAL[row * 30 + column];
-        }
-    }
-    0
+    MPMLQ_COMBINATORIAL
 }
 
 pub fn postfilter_zero() -> [i16; 10]
