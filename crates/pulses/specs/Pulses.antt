@@ -1,0 +1,133 @@
+-- Pulses (document 01, "Pulses"; the Rust's fcbk_unpk_positions and mpmlq_fixed_vector, which name §2.17 of G.723.1): the slots of a position code, the vector of a pulse description, when a description is accepted, and the theorem on equal vectors (demand 3), which proofs/EqualVectors.antt proves.
+use mathlib.Core.Path.{_≡_}
+use mathlib.Core.Bool.{Bool, true, false, cond, _&&_}
+use mathlib.Core.List.{List, [], _∷_}
+use mathlib.Core.Logic.{_↔_}
+use Prim.Native.Nat.{ℕ, zero, suc, _+_, _-_, _*_, _/_, _%_, _^_, _≤_, _<_, max}
+use lib.Dec.{leb, ltb, eqb}
+use lib.IntN.{ℤ, pos, negℤ}
+use lib.ListN.{getD}
+use Rattle.integers.specs.Base.{sumTo, entry, tabulate}
+use Rattle.tables.specs.Constants.{subframeSize, pitchMin, trainLagLimit, gridSlots, pulsesOdd, pulsesEven, positionLimitFive, positionLimitSix, gainIndexMax}
+use Rattle.tables.specs.Tables.{gains}
+use Rattle.tables.specs.Rules.{choose}
+use Rattle.pulses.specs.declared.Count.{Count}
+use Rattle.pulses.specs.declared.Count.the-variants.{Five, Six}
+use Rattle.pulses.specs.declared.Slots.{Slots}
+use Rattle.pulses.specs.declared.Slots.the-variants.{Of, None}
+use Rattle.pulses.specs.declared.Description.{Description}
+
+-- ---- position codes (fcbk_unpk_positions)
+
+-- how many pulses
+abbrev pub pulses : Count → ℕ
+pulses Five = pulsesOdd
+pulses Six = pulsesEven
+
+-- the first code without slots, 142506 for five and 593775 for six: as many codes as there are ways to choose the slots
+abbrev pub limit : Count → ℕ
+limit Five = positionLimitFive
+limit Six = positionLimitSix
+
+-- the slots that get a pulse, in ascending order, where s of the thirty slots are still to be walked, r pulses are still wanted and c is left of the code: the weight is the number of ways to choose r - 1 of the later slots; a code below it puts a pulse here, otherwise it is subtracted
+unfoldable pub walk : ℕ → ℕ → ℕ → List ℕ
+walk zero r c = []
+walk (suc s) zero c = []
+walk (suc s) (suc r) c = elim (ltb c (choose s r)) [ true ↦ (gridSlots - suc s) ∷ walk s r c | false ↦ walk s (suc r) (c - choose s r) ]
+
+-- the slots of the code c
+abbrev pub slots : Count → ℕ → List ℕ
+slots n c = walk gridSlots (pulses n) c
+
+-- slots as one number with a bit for each, that of slot 0 the lowest
+unfoldable pub bits : List ℕ → ℕ
+bits [] = 0
+bits (p ∷ ps) = 2 ^ p + bits ps
+
+-- what a code is read as: the bits of its slots, and none at the limit or above
+unfoldable pub positions : Count → ℕ → Slots
+positions n c = cond (ltb c (limit n)) (Of (bits (slots n c))) None
+
+-- ---- the vector of a pulse description (mpmlq_fixed_vector)
+
+-- A description is the code's struct: `count` of pulses, five or six; `train`, the flag; `lag`, the base lag; `grid`, a bit; `code`, the position code; `signs`, the sign byte; and `gain`, an index. Flag and grid are Bool, the others but the count any natural number.
+
+-- the size of its pulses: the doubled gain; 0 for a gain index above 23, where the Rust has none
+abbrev pub size : Description → ℕ
+size d = 2 * getD gains (d .gain) 0
+
+-- the sample at which its k-th pulse stands, from 0: twice the slot, and the grid bit
+unfoldable pub place : Description → ℕ → ℕ
+place d k = 2 * getD (slots (d .count) (d .code)) k 0 + cond (d .grid) 1 0
+
+-- z, negated where bit b of the sign byte s is set
+abbrev pub signedBy : ℤ → ℕ → ℕ → ℤ
+signedBy z s b = cond (eqb (s / 2 ^ b % 2) 1) (negℤ z) z
+
+-- its k-th pulse: of n pulses, it has the sign bit n - 1 - k; bits from n on are not read
+unfoldable pub pulse : Description → ℕ → ℤ
+pulse d k = signedBy (pos (size d)) (d .signs) (pulses (d .count) - 1 - k)
+
+-- whether j is p or a whole number of steps m after it
+abbrev pub repeats : ℕ → ℕ → ℕ → Bool
+repeats m p j = leb p j && eqb ((j - p) % m) 0
+
+-- the step of its train: the base lag; a base lag of 0 counts as 1, as in the Rust
+abbrev pub period : Description → ℕ
+period d = max (d .lag) 1
+
+-- whether a pulse that stands at p reaches sample j: at p and, with the flag set, one or more whole base lags later
+unfoldable pub reaches : Description → ℕ → ℕ → Bool
+reaches d p j = cond (d .train) (repeats (period d) p j) (eqb p j)
+
+-- the value at sample j: the sum of all pulses that reach it; 0 where the code has no slots
+unfoldable pub sample : Description → ℕ → ℤ
+sample d j = cond (ltb (d .code) (limit (d .count))) (sumTo (λ k. cond (reaches d (place d k) j) (pulse d k) (pos 0)) (pulses (d .count))) (pos 0)
+
+-- all sixty: what mpmlq_fixed_vector promises to give
+unfoldable pub vector : Description → List ℤ
+vector d = tabulate (sample d) subframeSize
+
+-- ---- the theorem on equal vectors
+
+-- accepted: the gain index is 0 to 23, no sign bit is set at the count or above and, with the flag set, the base lag is 18 to 57; that flag and grid are 0 or 1 is in their type
+pub record Accepted (d : Description) : Type 0 where
+  pub gain : d .gain ≤ gainIndexMax
+  pub signs : d .signs < 2 ^ pulses (d .count)
+  pub lag : d .train ≡ true → (pitchMin ≤ d .lag) × (d .lag < trainLagLimit)
+
+-- accepted, with a code below the limit
+pub record WithSlots (d : Description) : Type 0 where
+  pub accepted : Accepted d
+  pub below : d .code < limit (d .count)
+
+-- equal count, flag and, with the flag set, base lag
+pub record SameGiven (d e : Description) : Type 0 where
+  pub count : d .count ≡ e .count
+  pub train : d .train ≡ e .train
+  pub lag : d .train ≡ true → d .lag ≡ e .lag
+
+-- equal grid, code, signs and gain index
+pub record SameRest (d e : Description) : Type 0 where
+  pub grid : d .grid ≡ e .grid
+  pub code : d .code ≡ e .code
+  pub signs : d .signs ≡ e .signs
+  pub gain : d .gain ≡ e .gain
+
+-- two accepted descriptions with codes below the limit, of equal count, flag and, with the flag set, base lag, have equal values at all sixty samples exactly when grid, code, signs and gain index are equal (`equal-vectors`)
+abbrev pub EqualVectors : Type 0
+EqualVectors =
+    (d e : Description) → WithSlots d → WithSlots e → SameGiven d e
+    → ((j : ℕ) → j < subframeSize → entry (vector d) j ≡ entry (vector e) j) ↔ SameRest d e
+
+-- of a given count, flag and lag
+pub record Given (n : Count) (t : Bool) (l : ℕ) (d : Description) : Type 0 where
+  pub count : d .count ≡ n
+  pub train : d .train ≡ t
+  pub lag : d .lag ≡ l
+
+-- with count, flag and lag given, at most one accepted description with a code below the limit has a given vector (`at-most-one`); all codes from the limit on have the vector of zeros
+abbrev pub AtMostOne : Type 0
+AtMostOne =
+    (n : Count) (t : Bool) (l : ℕ) (v : List ℤ) (d e : Description) → WithSlots d → WithSlots e
+    → Given n t l d → Given n t l e → vector d ≡ v → vector e ≡ v → d ≡ e
