@@ -3,10 +3,12 @@
 
 Operators of two operands: all pairs of edge values and a spread of others; l_mac a selection of them. Roots: at squares and
 beside them. Pairs of words: products, multiples, shifts, orders and quotients at edges and over a spread. LSPs: by classes of
-vectors, and by the passes that stabilising them takes.
+vectors, and by the passes that stabilising them takes. Pulses: codes at their limits, at each change of the first slot and at
+each weight, and descriptions by lag, gain, signs and pulses that meet.
 
-With --counts it prints instead how many vectors of LSPs each class has.
+With --counts it prints instead how many vectors of LSPs each class has, with --codes every position code of both counts.
 """
+import math
 import random
 import sys
 
@@ -21,6 +23,11 @@ MEAN_LSPS = [3131, 4721, 7690, 10806, 13872, 16495, 19752, 22260, 25484, 27718]
 MINIMA = [256, 512]
 # What no frame asks for, and the function takes.
 OTHER_MINIMA = [-32768, -257, -1, 0, 1, 255, 257, 4000, 32767]
+# Five or six pulses in thirty slots.
+PULSES = [5, 6]
+LIMITS = {n: math.comb(30, n) for n in PULSES}
+# Codes that a field of fewer bits would take for small ones.
+LONG_CODES = [2**k + c for k in (18, 20, 24, 31) for c in (0, 5)] + [2**24 - 1, 2**32 - 1]
 SHIFTS = [0, 1, 2, 3, 24, 30, 31, 32, 33, 63, 64, 65, 96, 127, 128, 129, 4294967295]
 
 
@@ -246,8 +253,80 @@ def lsps(rng):
         ask("lsp_interpolate", k, *plain[0], *plain[1])
 
 
+def code_of(slots):
+    """The code of ascending slots, to choose questions by."""
+    code, start = 0, 0
+    for k, slot in enumerate(slots):
+        code += sum(math.comb(29 - i, len(slots) - 1 - k) for i in range(start, slot))
+        start = slot + 1
+    return code
+
+
+def codes(rng):
+    for n, limit in LIMITS.items():
+        # The first code of each first slot, and the limit.
+        changes = [limit - math.comb(30 - first, n) for first in range(31 - n)] + [limit]
+        for c in [c + near for c in changes for near in (-1, 0, 1)] + LONG_CODES:
+            if c >= 0:
+                ask("fcbk_unpk_positions", c, n)
+        # At each weight that a code can meet, the last code below it and the first that is not: n - r slots, then slot i.
+        for r in range(1, n + 1):
+            for i in range(n - r, 31 - r):
+                c = code_of(list(range(n - r)) + [i] + list(range(31 - r, 30)))
+                ask("fcbk_unpk_positions", c, n)
+                ask("fcbk_unpk_positions", c + 1, n)
+        for _ in range(300):
+            ask("fcbk_unpk_positions", rng.randrange(limit), n)
+
+
+# Slots of which four stand one, two and three lags of 18 apart, so that their pulses add up.
+MEETING = {5: [0, 9, 18, 20, 27], 6: [0, 9, 18, 27, 28, 29]}
+
+
+def description(rng, n):
+    """Code, signs, grid, count and gain index of an accepted description."""
+    return rng.randrange(LIMITS[n]), rng.randrange(2**n), rng.randrange(2), n, rng.randrange(24)
+
+
+def descriptions(rng):
+    def vector(code, signs, grid, n, gain, train, lag):
+        ask("mpmlq_fixed_vector", code, signs, grid, n, gain, train, lag)
+
+    vector(0, 0, 0, 5, 0, 1, 18)
+    for n, limit in LIMITS.items():
+        meeting = code_of(MEETING[n])
+        for lag in range(18, 58):
+            for grid in (0, 1):
+                vector(rng.randrange(limit), rng.randrange(2**n), grid, n, rng.randrange(24), 1, lag)
+                vector(meeting, rng.randrange(2**n), grid, n, 23, 1, lag)
+        # No sum is limited to 16 bits.
+        for signs in (0, 2**n - 1):
+            vector(meeting, signs, 0, n, 23, 1, 18)
+        # Lags with a train that no accepted description has.
+        for lag in list(range(18)) + [58, 59, 60, 61, 119, 142, 145, 256 + 18, 2**16 + 18, 2**31 - 1]:
+            vector(*description(rng, n), 1, lag)
+            for grid in (0, 1):
+                vector(meeting, 0, grid, n, 23, 1, lag)
+        # Every sign byte; no accepted description has bits at the count and above.
+        for signs in range(256):
+            vector(meeting, signs, 0, n, 11, 0, 60)
+        for gain in range(24):
+            for grid in (0, 1):
+                vector(rng.randrange(limit), rng.randrange(2**n), grid, n, gain, 0, rng.choice((18, 57, 58, 145)))
+        for code in [0, limit - 1, limit, limit + 1] + LONG_CODES:
+            for train in (0, 1):
+                vector(code, 2**n - 1, 1, n, 5, train, 20)
+        for _ in range(150):
+            vector(*description(rng, n), rng.randrange(2), rng.randrange(18, 58))
+
+
 def main():
     rng = random.Random(7231)
+    if "--codes" in sys.argv[1:]:
+        for n, limit in LIMITS.items():
+            for c in range(limit):
+                ask("fcbk_unpk_positions", c, n)
+        return
     if "--counts" in sys.argv[1:]:
         for name, found in classes(random.Random(7231)).items():
             print(f"{len(found):4} {name}")
@@ -257,6 +336,8 @@ def main():
     wide(rng)
     # A start of its own, so that --counts lists the vectors that are asked about.
     lsps(random.Random(7231))
+    codes(rng)
+    descriptions(rng)
 
 
 if __name__ == "__main__":

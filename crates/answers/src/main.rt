@@ -1,6 +1,7 @@
 // Answers questions as `oracle layers` of tests/oracle does: a line has a name and decimal numbers, its answer is a
 // line of decimal numbers. The file `stdin` has the questions and `stdout` the oracle's answers (tests/make-answers). A
 // question has one space between its words and numbers that fit; what else a line may hold is not looked for.
+mod descriptions;
 mod input;
 mod lsps;
 mod operators;
@@ -20,6 +21,9 @@ fn question(buf: &mut [u8], c: Cursor) -> Cursor {
     let n = w.name;
     if lsps::is_lsp(n) {
         return lsps::answer(buf, n, k);
+    }
+    if descriptions::is_pulse(n) {
+        return descriptions::answer(buf, n, k);
     }
     let first = input::next_word(buf, k);
     if pairs::is_pair(n) {

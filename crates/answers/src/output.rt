@@ -35,16 +35,18 @@ pub(crate) fn print_pair(w: wide::Wide) {
     print64(w.lo);
 }
 
-// Numbers of a list, each after a space but the first of its line.
+// A number of a list, after a space but for the first of its line.
+fn item(x: i32, first: bool) {
+    if !first {
+        io::write_all(1, b" ");
+    }
+    signed(x);
+}
+
 fn ten(p: [i16; 10], first: bool) {
-    let mut lead = !first;
     let mut i: usize = 0;
     while i < 10 {
-        if lead {
-            io::write_all(1, b" ");
-        }
-        signed(p[i] as i32);
-        lead = true;
+        item(p[i] as i32, first && i == 0);
         i += 1;
     }
 }
@@ -69,6 +71,40 @@ pub(crate) fn print_stabilised(s: lsp::Stabilised) {
     signed(if s.passed { 1 } else { 0 });
     let p = s.lsps;
     ten(p, false);
+    end_line();
+}
+
+pub(crate) fn print_sixty(v: [i32; 60]) {
+    let mut i: usize = 0;
+    while i < 60 {
+        item(v[i], i == 0);
+        i += 1;
+    }
+    end_line();
+}
+
+// The slots that have a bit.
+fn slots(found: u32) {
+    let mut rest = found;
+    let mut first = true;
+    let mut i: usize = 0;
+    while i < 30 {
+        if rest % 2 == 1 {
+            item(i as i32, first);
+            first = false;
+        }
+        rest = rest / 2;
+        i += 1;
+    }
+}
+
+pub(crate) fn print_slots(s: pulses::Slots) {
+    match s {
+        pulses::Slots::Of(found) => slots(found),
+        pulses::Slots::None => {
+            io::write_all(1, b"none");
+        }
+    }
     end_line();
 }
 

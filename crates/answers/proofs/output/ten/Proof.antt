@@ -5,31 +5,25 @@ use Rattle.answers.proofs.output.ten.Statement.{statement}
 use Rattle.answers.proofs.output.ten.Tie as tie
 
 abbrev Inv-loop : tie.InvT-loop
-Inv-loop first p lead₀ i₀ t6 lead i = i ≤ 10
+Inv-loop first p i₀ i = i ≤ 10
 
 abbrev μ-loop : tie.MeasureT-loop
-μ-loop first p lead₀ i₀ t6 lead i = 10 - i
+μ-loop first p i₀ i = 10 - i
 
 loop-holds : tie.Need-loop-holds Inv-loop μ-loop
 loop-holds c = search needs
 
-slice-aggregate-write-all : tie.Need-slice-aggregate-write-all Inv-loop μ-loop
-slice-aggregate-write-all c = search needs
+mul-item : tie.Need-mul-item Inv-loop μ-loop
+mul-item c = search needs
 
-write-all-requires : tie.Need-write-all-requires Inv-loop μ-loop
-write-all-requires c κs = search needs
+array-copy-out-item : tie.Need-array-copy-out-item Inv-loop μ-loop
+array-copy-out-item c = search needs
 
-mul-signed : tie.Need-mul-signed Inv-loop μ-loop
-mul-signed c = search needs
+cast-item : tie.Need-cast-item Inv-loop μ-loop
+cast-item c = search signed
 
-array-copy-out-signed : tie.Need-array-copy-out-signed Inv-loop μ-loop
-array-copy-out-signed c = search needs
-
-cast-signed : tie.Need-cast-signed Inv-loop μ-loop
-cast-signed c = search signed
-
-signed-requires : tie.Need-signed-requires Inv-loop μ-loop
-signed-requires c κs = search needs
+item-requires : tie.Need-item-requires Inv-loop μ-loop
+item-requires c κs = search needs
 
 add-i : tie.Need-add-i Inv-loop μ-loop
 add-i c = search needs
@@ -50,12 +44,10 @@ ten-spec =
     Inv-loop
     μ-loop
     loop-holds
-    slice-aggregate-write-all
-    write-all-requires
-    mul-signed
-    array-copy-out-signed
-    cast-signed
-    signed-requires
+    mul-item
+    array-copy-out-item
+    cast-item
+    item-requires
     add-i
     loop-less
     loop-again
