@@ -137,9 +137,6 @@ equal-vectors d e v w s = (
 )
 
 pub at-most-one : AtMostOne
-at-most-one n t l v d e x y g h p q =
-    let count : d .count ≡ e .count = g .count ∙ sym (h .count) in
-    let flag : d .train ≡ e .train = g .train ∙ sym (h .train) in
-    let lags : d .lag ≡ e .lag = g .lag ∙ sym (h .lag) in
-    let c = equal-vectors d e x y (record { count = count; train = flag; lag = λ f. lags }) .0 (λ j m. ap (λ (xs : List ℤ). entry xs j) (p ∙ sym q)) in
-    λ i. record { count = count i; train = flag i; lag = lags i; grid = c .grid i; code = c .code i; signs = c .signs i; gain = c .gain i }
+at-most-one d e v w count train lag same =
+    let r = equal-vectors d e v w (record { count = count; train = train; lag = λ t. lag }) .0 (λ j h. ap (λ (xs : List ℤ). entry xs j) same) in
+    λ i. record { count = count i; train = train i; lag = lag i; grid = r .grid i; code = r .code i; signs = r .signs i; gain = r .gain i }

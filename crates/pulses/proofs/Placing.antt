@@ -15,7 +15,7 @@ use Rattle.integers.specs.Natural.{cond-elim}
 use Rattle.integers.specs.Bound.{within-lit, all-within-tabulate}
 use Rattle.integers.specs.Sum.{sum-step, within-sum-to}
 use Rattle.integers.specs.Fill.{tabulate-at, tabulate-ext}
-use Rattle.pulses.specs.Pulses.{pulses, limit, slots, bits, size, place, signedBy, pulse, repeats, period, reaches, sample, vector}
+use Rattle.pulses.specs.Pulses.{pulses, limit, slots, bits, size, place, signedBy, pulse, repeats, period, reaches, term, sample, vector}
 use Rattle.pulses.specs.declared.Description.{Description}
 use Rattle.pulses.proofs.Walks.{Ascends, ascends-from, slots-length, slots-ascend, place-below}
 use Rattle.pulses.proofs.Bits.{double, pulses-few}
@@ -75,10 +75,7 @@ none-left i (p ∷ ps) h a = absurd (let m : i ≤ p = a .0 in let n : p < 30 = 
 
 -- ---- the loop over the slots: v has the first `passed` pulses, and the bits left are those of the other slots
 
--- what pulse i adds at sample j, and the first k pulses together
-abbrev pub term : Description → ℕ → ℕ → ℤ
-term d j i = cond (reaches d (place d i) j) (pulse d i) (pos 0)
-
+-- what the first k pulses add to sample j
 abbrev pub part : Description → ℕ → ℕ → ℤ
 part d k j = sumTo (term d j) k
 

@@ -5,15 +5,14 @@ use mathlib.Core.Bool.{Bool, true, false, cond}
 use Prim.Native.Nat.{ℕ, zero, suc, _+_, _-_, _%_, _≤_, _<_, max}
 use native.Mathlib.Nat.{zero-mod, mod-eq-sub-mod}
 use native.Mathlib.Omega.{arith}
-use lib.Dec.{leb, ltb, eqb}
+use lib.Dec.{leb, eqb}
 use lib.IntN.{ℤ, pos, _+ℤ_, +ℤ-idl, +ℤ-idr}
 use borrow.Author.Tests.{eq-eqb, ne-eqb, le-leb, lt-leb, lt-ltb}
 use Rattle.integers.specs.Base.{sumTo}
 use Rattle.integers.specs.Linear.{line, line-add, add-cancel}
 use Rattle.integers.specs.Natural.{le-or-lt}
-use Rattle.integers.specs.Sum.{sum-ext}
 use Rattle.tables.specs.Constants.{subframeSize}
-use Rattle.pulses.specs.Pulses.{pulses, limit, place, pulse, repeats, period, reaches, sample, WithSlots, SameGiven, SameRest}
+use Rattle.pulses.specs.Pulses.{pulses, limit, place, pulse, repeats, period, reaches, term, sample, WithSlots, SameGiven, SameRest}
 use Rattle.pulses.specs.declared.Description.{Description}
 use Rattle.pulses.proofs.Distinct.{sumAt}
 use Rattle.pulses.proofs.Repeats.{repeats-earlier, repeats-here, repeats-between}
@@ -80,33 +79,28 @@ module _ (m : ℕ) (hm : 0 < m) (p : ℕ → ℕ) (a : ℕ → ℤ) where
 abbrev pub bare : Description → ℕ → ℤ
 bare d j = sumAt (place d) (pulse d) (pulses (d .count)) j
 
-module _ (d : Description) (j : ℕ) (h : d .code < limit (d .count)) where
-  -- of a code with slots
-  sample-sum : sample d j ≡ sumTo (λ k. cond (reaches d (place d k) j) (pulse d k) (pos 0)) (pulses (d .count))
-  unfolding sample
-  sample-sum =
-      ap (λ (t : Bool). cond t (sumTo (λ k. cond (reaches d (place d k) j) (pulse d k) (pos 0)) (pulses (d .count))) (pos 0))
-      (lt-ltb (d .code) (limit (d .count)) h)
-
-  sample-plain : d .train ≡ false → sample d j ≡ bare d j
-  unfolding reaches
-  sample-plain t =
-      sample-sum
-      ∙ ap (λ (f : Bool). sumTo (λ k. cond (cond f (repeats (period d) (place d k) j) (eqb (place d k) j)) (pulse d k) (pos 0)) (pulses (d .count))) t
-
-  sample-repeated : d .train ≡ true → sample d j ≡ sumTo (λ k. cond (repeats (period d) (place d k) j) (pulse d k) (pos 0)) (pulses (d .count))
-  unfolding reaches
-  sample-repeated t =
-      sample-sum
-      ∙ ap (λ (f : Bool). sumTo (λ k. cond (cond f (repeats (period d) (place d k) j) (eqb (place d k) j)) (pulse d k) (pos 0)) (pulses (d .count))) t
+-- for a code with slots, by the flag
+sample-sum : (d : Description) (j : ℕ) (t : Bool) → d .code < limit (d .count) → d .train ≡ t
+    → sample d j ≡ sumTo (λ k. cond (cond t (repeats (period d) (place d k) j) (eqb (place d k) j)) (pulse d k) (pos 0)) (pulses (d .count))
+unfolding sample reaches
+sample-sum d j t h e =
+    ap (λ (b : Bool). cond b (sumTo (term d j) (pulses (d .count))) (pos 0)) (lt-ltb (d .code) (limit (d .count)) h)
+    ∙ ap (λ (f : Bool). sumTo (λ k. cond (cond f (repeats (period d) (place d k) j) (eqb (place d k) j)) (pulse d k) (pos 0)) (pulses (d .count))) e
 
 sample-train : (d : Description) (j : ℕ) → d .code < limit (d .count) → d .train ≡ true
     → sample d j ≡ bare d j +ℤ cond (leb (period d) j) (sample d (j - period d)) (pos 0)
 sample-train d j h t =
-    sample-repeated d j h t ∙ again (period d) (omega arith) (place d) (pulse d) (pulses (d .count)) j
-    ∙ ap (λ (z : ℤ). bare d j +ℤ cond (leb (period d) j) z (pos 0)) (sym (sample-repeated d (j - period d) h t))
+    sample-sum d j true h t ∙ again (period d) (omega arith) (place d) (pulse d) (pulses (d .count)) j
+    ∙ ap (λ (z : ℤ). bare d j +ℤ cond (leb (period d) j) z (pos 0)) (sym (sample-sum d (j - period d) true h t))
 
 -- ---- two descriptions of equal count, flag and lag
+
+-- with the flag clear the lag plays no part
+sample-clear : (d : Description) (j : ℕ) → d .train ≡ false
+    → sample d j ≡ sample (record { count = d .count; train = false; lag = 0; grid = d .grid; code = d .code; signs = d .signs; gain = d .gain }) j
+unfolding sample reaches place pulse
+sample-clear d j t =
+    λ i. sample (record { count = d .count; train = t i; lag = d .lag; grid = d .grid; code = d .code; signs = d .signs; gain = d .gain }) j
 
 module _ {d e : Description} (s : SameGiven d e) where
   -- equal samples have equal bare pulses: what was one period before is equal too, and cancels
@@ -115,7 +109,7 @@ module _ {d e : Description} (s : SameGiven d e) where
   bare-same v w same j h = flagged (d .train) refl
     where
       flagged : (t : Bool) → d .train ≡ t → bare d j ≡ bare e j
-      flagged false t = sym (sample-plain d j (v .below) t) ∙ same j h ∙ sample-plain e j (w .below) (sym (s .train) ∙ t)
+      flagged false t = sym (sample-sum d j false (v .below) t) ∙ same j h ∙ sample-sum e j false (w .below) (sym (s .train) ∙ t)
       flagged true t =
           let m : period d ≡ period e = ap (λ (l : ℕ). max l 1) (s .lag t) in
           add-cancel (bare d j) (bare e j) (cond (leb (period d) j) (sample d (j - period d)) (pos 0))
@@ -123,27 +117,12 @@ module _ {d e : Description} (s : SameGiven d e) where
           ∙ rw (← m) (ap (λ (z : ℤ). bare e j +ℤ cond (leb (period d) j) z (pos 0)) (sym (same (j - period d) (omega arith)))))
 
   -- an equal rest gives equal samples
-  reaches-same : (p j : ℕ) → reaches d p j ≡ reaches e p j
-  unfolding reaches
-  reaches-same p j = flagged (d .train) refl
-    where
-      flagged : (t : Bool) → d .train ≡ t → reaches d p j ≡ reaches e p j
-      flagged false t = rw (← (s .train), t)
-      flagged true t = rw (← (s .train), t, s .lag t)
-
-  -- places and pulses read neither flag nor lag
-  place-same : SameRest d e → (k : ℕ) → place d k ≡ place e k
-  unfolding place
-  place-same c k = λ i. place (record { count = s .count i; train = d .train; lag = d .lag; grid = c .grid i; code = c .code i; signs = c .signs i; gain = c .gain i }) k
-
-  pulse-same : SameRest d e → (k : ℕ) → pulse d k ≡ pulse e k
-  unfolding pulse
-  pulse-same c k = λ i. pulse (record { count = s .count i; train = d .train; lag = d .lag; grid = c .grid i; code = c .code i; signs = c .signs i; gain = c .gain i }) k
-
   pub sample-same : SameRest d e → (j : ℕ) → sample d j ≡ sample e j
-  unfolding sample
-  sample-same c j =
-      ap (λ (z : ℤ). cond (ltb (d .code) (limit (d .count))) z (pos 0))
-      (sum-ext (λ k. cond (reaches d (place d k) j) (pulse d k) (pos 0)) (λ k. cond (reaches e (place e k) j) (pulse e k) (pos 0)) (pulses (d .count))
-      (λ k h. rw (place-same c k, pulse-same c k, reaches-same (place e k) j)))
-      ∙ (λ i. cond (ltb (c .code i) (limit (s .count i))) (sumTo (λ k. cond (reaches e (place e k) j) (pulse e k) (pos 0)) (pulses (s .count i))) (pos 0))
+  sample-same r j = flagged (d .train) refl
+    where
+      flagged : (t : Bool) → d .train ≡ t → sample d j ≡ sample e j
+      flagged true t = λ i. sample (record { count = s .count i; train = s .train i; lag = s .lag t i; grid = r .grid i; code = r .code i; signs = r .signs i; gain = r .gain i }) j
+      flagged false t =
+          sample-clear d j t
+          ∙ (λ i. sample (record { count = s .count i; train = false; lag = 0; grid = r .grid i; code = r .code i; signs = r .signs i; gain = r .gain i }) j)
+          ∙ sym (sample-clear e j (sym (s .train) ∙ t))

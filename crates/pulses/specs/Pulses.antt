@@ -80,9 +80,13 @@ period d = max (d .lag) 1
 unfoldable pub reaches : Description → ℕ → ℕ → Bool
 reaches d p j = cond (d .train) (repeats (period d) p j) (eqb p j)
 
--- the value at sample j: the sum of all pulses that reach it; 0 where the code has no slots
+-- what its k-th pulse adds to sample j
+abbrev pub term : Description → ℕ → ℕ → ℤ
+term d j k = cond (reaches d (place d k) j) (pulse d k) (pos 0)
+
+-- the value at sample j: the sum over all its pulses; 0 where the code has no slots
 unfoldable pub sample : Description → ℕ → ℤ
-sample d j = cond (ltb (d .code) (limit (d .count))) (sumTo (λ k. cond (reaches d (place d k) j) (pulse d k) (pos 0)) (pulses (d .count))) (pos 0)
+sample d j = cond (ltb (d .code) (limit (d .count))) (sumTo (term d j) (pulses (d .count))) (pos 0)
 
 -- all sixty: what mpmlq_fixed_vector promises to give
 unfoldable pub vector : Description → List ℤ
@@ -120,14 +124,8 @@ EqualVectors =
     (d e : Description) → WithSlots d → WithSlots e → SameGiven d e
     → ((j : ℕ) → j < subframeSize → entry (vector d) j ≡ entry (vector e) j) ↔ SameRest d e
 
--- of a given count, flag and lag
-pub record Given (n : Count) (t : Bool) (l : ℕ) (d : Description) : Type 0 where
-  pub count : d .count ≡ n
-  pub train : d .train ≡ t
-  pub lag : d .lag ≡ l
-
--- with count, flag and lag given, at most one accepted description with a code below the limit has a given vector (`at-most-one`); all codes from the limit on have the vector of zeros
+-- of accepted descriptions with codes below the limit, with one count, flag and lag, no two have one vector, so that at most one has a given vector (`at-most-one`); all codes from the limit on have the vector of zeros
 abbrev pub AtMostOne : Type 0
 AtMostOne =
-    (n : Count) (t : Bool) (l : ℕ) (v : List ℤ) (d e : Description) → WithSlots d → WithSlots e
-    → Given n t l d → Given n t l e → vector d ≡ v → vector e ≡ v → d ≡ e
+    (d e : Description) → WithSlots d → WithSlots e
+    → d .count ≡ e .count → d .train ≡ e .train → d .lag ≡ e .lag → vector d ≡ vector e → d ≡ e

@@ -57,7 +57,7 @@ fn max_position(n: Count) -> u32
     }
 }
 
-// The weight of slot i with so many pulses still wanted: the row has the weights of one count, from the most wanted.
+// The weight of slot i with so many pulses still wanted. A row has those of one such number; the first is for six.
 fn comb_weight(table: &[u32; 180], i: usize, wanted: usize) -> u32
     requires { ⌜ now table ≡ weights ⌝ }
     requires { ⌜ i < 30 ⌝ }
