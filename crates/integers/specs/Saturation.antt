@@ -69,6 +69,12 @@ saturated-same {w} M {z} f t = saturated-id M z (omega (arith, f .sfits, leb→l
 pub saturated-fits : {w : Width} (M : ℕ) (z : ℤ) → T (ltb M (2 ^ hbits w)) → SFits w (saturated M z)
 saturated-fits {w} M z t = record { sfits = lt-of-le-of-lt (saturated-bound M z) (ltb→lt M (2 ^ hbits w) t) }
 
+-- saturated to a wider range first: as if to the narrower at once
+pub saturated-twice : (m M : ℕ) → m ≤ M → (z : ℤ) → saturated m (saturated M z) ≡ saturated m z
+unfolding saturated
+saturated-twice m M h (pos n) = ap pos (omega arith)
+saturated-twice m M h (negsuc n) = ap negsuc (omega arith)
+
 -- ---- code that saturates a number x of width w to width w′, whose largest number is M: what its tests say of x's bits, and what each arm returns
 
 module _ (w w′ : Width) (M : ℕ) (m : T (ltb M (2 ^ hbits w′))) {x : ℤ} (f : SFits w x) where

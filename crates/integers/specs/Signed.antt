@@ -10,12 +10,12 @@ use denote.Shadow.{shadow}
 use denote.Array.{each, inArray}
 use denote.Signed.{SInt}
 use lib.Dec.{T, leb, ltb, leb→le}
-use lib.IntN.{ℤ, pos, negsuc, negℤ, subℕ, _+ℤ_, _-ℤ_, _*ℤ_}
-use lib.Signed.{mag, ltZ, nonNeg, shrZ, quotZ, mag-shr}
+use lib.IntN.{ℤ, pos, negsuc, natAbs, negℤ, subℕ, _+ℤ_, _-ℤ_, _*ℤ_}
+use lib.Signed.{mag, ltZ, nonNeg, shrZ, quotZ, mag-shr, _≤ℤ_}
 use mir.Syntax.{Width, w8, w16, w32, w64, w128}
 use mir.Val.{Val, SFits, hbits, toZ, ofZ}
 use mir.Facts.{sfits-widen, sfits-lit, toZ-ofZ}
-use Rattle.integers.specs.Base.{AllFit, entry}
+use Rattle.integers.specs.Base.{AllFit, entry, up}
 use Rattle.integers.specs.Natural.{cond-elim, none-below-zero}
 use Rattle.integers.specs.Bound.{within-add, within-sub, within-mul, within-fits, fits-within}
 
@@ -45,6 +45,11 @@ nonneg (negsuc n) h = absurd (subst T h tt)
 pub neg-nonneg : (z : ℤ) → ltZ z (pos 0) ≡ true → T (nonNeg (negℤ z))
 neg-nonneg (pos n) h = none-below-zero n h
 neg-nonneg (negsuc n) h = tt
+
+-- a number that is not negative, as a cast to an unsigned type has it
+pub natural : (z : ℤ) → pos 0 ≤ℤ z → T (nonNeg z) × (pos (natAbs z) ≡ z) × (natAbs z ≡ up z)
+natural (pos n) h = (tt, refl, refl)
+natural (negsuc n) h = absurd (h .le)
 
 -- ---- one operation on numbers of narrow types, at a wider one; `search` has the narrow widths from the facts that it finds
 

@@ -52,9 +52,13 @@ positions n c = cond (ltb c (limit n)) (Of (bits (slots n c))) None
 
 -- A description is the code's struct: `count` of pulses, five or six; `train`, the flag; `lag`, the base lag; `grid`, a bit; `code`, the position code; `signs`, the sign byte; and `gain`, an index. Flag and grid are Bool, the others but the count any natural number.
 
--- the size of its pulses: the doubled gain; 0 for a gain index above 23, where the Rust has none
+-- the doubled gain of an index; 0 for an index above 23, where the Rust has none
+abbrev pub doubledGain : ℕ → ℕ
+doubledGain i = 2 * getD gains i 0
+
+-- the size of its pulses
 abbrev pub size : Description → ℕ
-size d = 2 * getD gains (d .gain) 0
+size d = doubledGain (d .gain)
 
 -- the sample at which its k-th pulse stands, from 0: twice the slot, and the grid bit
 unfoldable pub place : Description → ℕ → ℕ

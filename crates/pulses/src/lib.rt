@@ -3,11 +3,10 @@ ghost use mathlib.Core.Path.{_≡_};
 ghost use mathlib.Core.Bool.{cond};
 ghost use Prim.Native.Nat.{_+_, _-_, _*_, _^_, _≤_, _<_, max};
 ghost use lib.IntN.{pos, _+ℤ_};
-ghost use lib.ListN.{getD};
 ghost use Rattle.integers.specs.Base.{entry, tabulate, Within, AllWithin};
-ghost use Rattle.tables.specs.Tables.{gains, weights};
+ghost use Rattle.tables.specs.Tables.{weights};
 ghost use Rattle.tables.specs.Rules.{choose};
-ghost use Rattle.pulses.specs.Pulses.{pulses, limit, walk, slots, bits, positions, signedBy, repeats, vector};
+ghost use Rattle.pulses.specs.Pulses.{pulses, limit, walk, slots, bits, positions, doubledGain, signedBy, repeats, vector};
 
 // The pulses of a subframe: six in even ones, five in odd ones.
 pub enum Count {
@@ -121,8 +120,9 @@ pub fn fcbk_unpk_positions(code: u32, n: Count) -> Slots
     Slots::Of(w.found)
 }
 
-fn doubled_gain(gain: u8) -> i32
-    ensures { λ r. ⌜ r ≡ pos (2 * getD gains gain 0) ⌝ }
+// The size of the pulses that a gain index stands for.
+pub fn doubled_gain(gain: u8) -> i32
+    ensures { λ r. ⌜ r ≡ pos (doubledGain gain) ⌝ }
 {
     2 * (tables::fixed_codebook_gain(gain) as i32)
 }
