@@ -1,4 +1,4 @@
-// Questions to crate lsp.
+// Questions to crates lsp and lpc.
 use crate::input::Cursor;
 use crate::input::Word;
 use crate::input::name;
@@ -71,12 +71,12 @@ fn lists(buf: &mut [u8], n: u64, c: Cursor) -> Cursor {
         return first.cursor;
     }
     if n == name(b"lsp_to_lpc_q13") {
-        print_ten(lsp::lsp_to_lpc_q13(p));
+        print_ten(lpc::lsp_to_lpc_q13(p));
         return first.cursor;
     }
     let second = next_ten(buf, first.cursor);
     let q = second.values;
-    print_sets(lsp::frame_lpc_q13(p, q));
+    print_sets(lpc::frame_lpc_q13(p, q));
     second.cursor
 }
 
@@ -84,7 +84,7 @@ fn lists(buf: &mut [u8], n: u64, c: Cursor) -> Cursor {
 pub(crate) fn answer(buf: &mut [u8], n: u64, c: Cursor) -> Cursor {
     if n == name(b"cos_q14") {
         let r = next_word(buf, c);
-        print16(lsp::cos_q14(number16(r.word)));
+        print16(lpc::cos_q14(number16(r.word)));
         return r.cursor;
     }
     if is_led(n) {

@@ -1,5 +1,3 @@
 pub mod Blends
-pub mod Cosines
-pub mod Products
 pub mod Values
 pub mod Passes

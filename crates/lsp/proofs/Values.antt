@@ -2,26 +2,9 @@
 use mathlib.Core.Path.{_≡_, refl}
 use mathlib.Core.Bool.{true}
 use mathlib.Core.List.{[], _∷_}
-use lib.IntN.{pos, negsuc}
+use lib.IntN.{pos}
 use Rattle.integers.specs.Base.{saturated}
-use Rattle.tables.specs.Tables.{cosines}
-use Rattle.lsp.specs.Lsps.{cosine, passTo, anyTo, passes, stabilised}
-
-pub cosine-of-minus-5 : cosine (negsuc 4) ≡ pos 16384
-unfolding cosines
-cosine-of-minus-5 = refl
-
-pub cosine-of-0 : cosine (pos 0) ≡ pos 16384
-unfolding cosines
-cosine-of-0 = refl
-
-pub cosine-of-64 : cosine (pos 64) ≡ pos 16383
-unfolding cosines
-cosine-of-64 = refl
-
-pub cosine-of-32767 : cosine (pos 32767) ≡ negsuc 16383
-unfolding cosines
-cosine-of-32767 = refl
+use Rattle.lsp.specs.Lsps.{passTo, anyTo, passes, stabilised}
 
 -- LSPs 1000, 1100, 2000, …, 9000 at minimum 256: the first two move, and they pass
 pub stabilised-1000-1100 :

@@ -1,15 +1,14 @@
--- LSPs (document 01, "LSPs"; the Rust's qdec.rs): candidates stabilised, interpolated and turned into four sets of ten coefficients, and candidates of erased frames. An LSP f is the frequency π f / 32768; clauses are those of G.723.1 that the Rust names.
+-- LSPs (document 01, "LSPs"; the Rust's qdec.rs): candidates stabilised and interpolated, and candidates of erased frames. An LSP f is the frequency π f / 32768; clauses are those of G.723.1 that the Rust names.
 use mathlib.Core.Bool.{Bool, true, false, cond, not, _||_}
 use mathlib.Core.List.{List}
-use Prim.Native.Nat.{ℕ, zero, suc, _+_, _-_, _*_, _/_, _%_}
-use lib.Dec.{ltb, eqb}
+use Prim.Native.Nat.{ℕ, zero, suc, _+_}
 use lib.IntN.{ℤ, pos, _+ℤ_, _-ℤ_, _*ℤ_}
 use lib.ListN.{set}
 use lib.Signed.{ltZ, quotZ}
-use Rattle.integers.specs.Base.{floorDiv, entry, tabulate, up}
-use Rattle.tables.specs.Constants.{lpcOrder, subframesPerFrame, stabilityPasses, lspPredictorErased, polynomialOne}
-use Rattle.tables.specs.Tables.{cosines, meanLsps}
-use Rattle.basicop.specs.Operators.{word16, add16, sub16, mult16}
+use Rattle.integers.specs.Base.{floorDiv, entry, tabulate}
+use Rattle.tables.specs.Constants.{lpcOrder, stabilityPasses, lspPredictorErased}
+use Rattle.tables.specs.Tables.{meanLsps}
+use Rattle.basicop.specs.Operators.{add16, sub16, mult16}
 use Rattle.lsp.specs.declared.Stabilised.{Stabilised}
 
 -- ---- stabilising (lsp_stability; §2.6, step 3)
@@ -79,53 +78,6 @@ interpolated zero previous current = blend 3 1 previous current
 interpolated (suc zero) previous current = blend 2 2 previous current
 interpolated (suc (suc zero)) previous current = blend 1 3 previous current
 interpolated (suc (suc (suc k))) previous current = current
-
--- ---- coefficients (cos_q14, lsp_to_lpc_q13, frame_lpc_q13; §2.7)
-
--- r 128ths of the way from the table's entry i to the next, with a floor
-abbrev pub between : ℕ → ℕ → ℤ
-between i r = entry cosines i +ℤ floorDiv ((entry cosines (i + 1) -ℤ entry cosines i) *ℤ pos r) 128
-
--- the cosine of an LSP, in 16384ths; a negative LSP is read as 0
-abbrev pub cosine : ℤ → ℤ
-cosine f = between (up f / 128) (up f % 128)
-
--- the coefficient d places before i, 0 before the first
-abbrev pub delayed : (ℕ → ℤ) → ℕ → ℕ → ℤ
-delayed f i d = cond (ltb i d) (pos 0) (f (i - d))
-
--- a coefficient of a polynomial times 1 - 2 c z⁻¹ + z⁻², c in 16384ths, from the polynomial's x at the same place, y one before and z two before; the product is floored
-abbrev pub factorTerm : ℤ → ℤ → ℤ → ℤ → ℤ
-factorTerm c x y z = x -ℤ floorDiv (y *ℤ c) 8192 +ℤ z
-
--- coefficient i of f times that factor
-abbrev pub timesFactor : (ℕ → ℤ) → ℤ → ℕ → ℤ
-timesFactor f c i = factorTerm c (f i) (delayed f i 1) (delayed f i 2)
-
--- coefficient i of the product of the factors of c 0, c 1, …, c (n - 1), in 2 ^ 24ths
-unfoldable pub product : (ℕ → ℤ) → ℕ → ℕ → ℤ
-product c zero i = cond (eqb i 0) (pos polynomialOne) (pos 0)
-product c (suc n) i = timesFactor (product c n) (c n) i
-
--- coefficient i of the product of the factors of the five LSPs at first, first + 2, …
-abbrev pub polynomial : List ℤ → ℕ → ℕ → ℤ
-polynomial p first = product (λ k. cosine (entry p (2 * k + first))) 5
-
--- a + b + c - d halved with a floor, negated, rounded from 2 ^ 24ths to 8192ths and limited to 16 bits
-abbrev pub roundedSum : ℤ → ℤ → ℤ → ℤ → ℤ
-roundedSum a b c d = word16 (floorDiv (pos 1024 -ℤ floorDiv (a +ℤ b +ℤ c -ℤ d) 2) 2048)
-
--- coefficient j + 1 of -(P (1 + z⁻¹) + Q (1 - z⁻¹)) / 2, where P is of the LSPs at even places and Q of those at odd ones
-abbrev pub coefficient : List ℤ → ℕ → ℤ
-coefficient p j = roundedSum (polynomial p 0 (j + 1)) (polynomial p 0 j) (polynomial p 1 (j + 1)) (polynomial p 1 j)
-
--- those at j from 0 to 9: a set
-abbrev pub coefficients : List ℤ → List ℤ
-coefficients p = tabulate (coefficient p) lpcOrder
-
--- a set for each subframe
-abbrev pub frameCoefficients : List ℤ → List ℤ → List (List ℤ)
-frameCoefficients previous current = tabulate (λ k. coefficients (interpolated k previous current)) subframesPerFrame
 
 -- ---- erased frames (lsp_extrapolate; §3.10.1)
 

@@ -1,12 +1,12 @@
-// LSPs: from candidates to four sets of ten coefficients, under the Rust's names (qdec.rs).
+// LSPs: candidates stabilised, interpolated, and those of erased frames, under the Rust's names (qdec.rs).
 ghost use mathlib.Core.Path.{_≡_};
 ghost use mathlib.Core.Bool.{cond, _||_};
-ghost use Prim.Native.Nat.{_<_, _^_};
+ghost use Prim.Native.Nat.{_<_};
 ghost use lib.IntN.{_+ℤ_, _-ℤ_};
 ghost use lib.Signed.{ltZ};
-ghost use Rattle.integers.specs.Base.{floorDiv, entry, tabulate, up, Within, AllWithin};
+ghost use Rattle.integers.specs.Base.{floorDiv, entry, tabulate};
 ghost use Rattle.basicop.specs.Operators.{mult32, mac32, rounded16};
-ghost use Rattle.lsp.specs.Lsps.{short, spread, pass, passMoves, anyShort, stabilised, checkOrPrevious, interpolated, cosine, delayed, factorTerm, timesFactor, polynomial, roundedSum, coefficients, frameCoefficients, predicted, extrapolated};
+ghost use Rattle.lsp.specs.Lsps.{short, spread, pass, passMoves, anyShort, stabilised, checkOrPrevious, interpolated, predicted, extrapolated};
 
 // The LSPs after stabilising, and whether every gap is then at least the minimum.
 pub struct Stabilised {
@@ -159,117 +159,6 @@ pub fn lsp_interpolate(k: usize, prev: [i16; 10], cur: [i16; 10]) -> [i16; 10]
         ),
         _ => cur,
     }
-}
-
-// The place of an LSP in the table, in 128ths of its steps. Negative LSPs occur: stabilising holds gaps, not places.
-fn table_place(freq: i16) -> usize
-    ensures { λ r. ⌜ r ≡ up freq ⌝ }
-{
-    if freq < 0 { 0 } else { freq as usize }
-}
-
-pub fn cos_q14(freq: i16) -> i16
-    ensures { λ r. ⌜ r ≡ cosine freq ⌝ }
-{
-    let place = table_place(freq);
-    let idx = place / 128;
-    let frac = (place % 128) as i16;
-    let base = tables::lsp_cosine_lookup(idx);
-    let next = tables::lsp_cosine_lookup(idx + 1);
-    basicop::add(
-        base,
-        basicop::mult(basicop::sub(next, base), basicop::shl(frac, 8)),
-    )
-}
-
-// The coefficient d places before i, 0 before the first.
-fn earlier(p: &[i64; 11], i: usize, d: usize) -> i64
-    requires { ⌜ i < 11 ⌝ }
-    ensures { λ r. ⌜ r ≡ delayed (entry (now (p .entry))) i d ⌝ }
-{
-    if i < d { 0 } else { p[i - d] }
-}
-
-// A coefficient after one more factor, from x at its own place, y one before and z two before.
-fn term(c: i16, x: i64, y: i64, z: i64) -> i64
-    requires { ⌜ Within (2 ^ 37) x ⌝ }
-    requires { ⌜ Within (2 ^ 37) y ⌝ }
-    requires { ⌜ Within (2 ^ 37) z ⌝ }
-    ensures { λ r. ⌜ r ≡ factorTerm c x y z ⌝ }
-{
-    x - ((y * c as i64) >> 13) + z
-}
-
-fn times_factor(p: [i64; 11], c: i16) -> [i64; 11]
-    requires { ⌜ AllWithin (2 ^ 37) p ⌝ }
-    ensures { λ r. ⌜ r ≡ tabulate (timesFactor (entry p) c) 11 ⌝ }
-{
-    let mut q = [0i64; 11];
-    let mut i: usize = 0;
-    while i < 11 {
-        let y = earlier(&p, i, 1);
-        let z = earlier(&p, i, 2);
-        q[i] = term(c, p[i], y, z);
-        i += 1;
-    }
-    q
-}
-
-// The product of the five factors of every second LSP.
-fn expanded(lsp: [i16; 10], first: usize) -> [i64; 11]
-    requires { ⌜ first < 2 ⌝ }
-    ensures { λ r. ⌜ r ≡ tabulate (polynomial lsp first) 11 ⌝ }
-{
-    let mut p = [0i64; 11];
-    p[0] = tables::LPC_ONE_Q24;
-    let mut k: usize = 0;
-    while k < 5 {
-        let c = cos_q14(lsp[2 * k + first]);
-        let q = times_factor(p, c);
-        p = q;
-        k += 1;
-    }
-    p
-}
-
-// A coefficient from those of both polynomials at its own place, p1 and q1, and at the one before.
-fn rounded_q13(p1: i64, p0: i64, q1: i64, q0: i64) -> i16
-    requires { ⌜ Within (2 ^ 37) p1 ⌝ }
-    requires { ⌜ Within (2 ^ 37) p0 ⌝ }
-    requires { ⌜ Within (2 ^ 37) q1 ⌝ }
-    requires { ⌜ Within (2 ^ 37) q0 ⌝ }
-    ensures { λ r. ⌜ r ≡ roundedSum p1 p0 q1 q0 ⌝ }
-{
-    let sum = p1 + p0 + q1 - q0;
-    basicop::saturate(((1024 - (sum >> 1)) >> 11) as i32)
-}
-
-pub fn lsp_to_lpc_q13(lsp: [i16; 10]) -> [i16; 10]
-    ensures { λ r. ⌜ r ≡ coefficients lsp ⌝ }
-{
-    let pz = expanded(lsp, 0);
-    let qz = expanded(lsp, 1);
-    let mut a = [0i16; 10];
-    let mut j: usize = 0;
-    while j < 10 {
-        a[j] = rounded_q13(pz[j + 1], pz[j], qz[j + 1], qz[j]);
-        j += 1;
-    }
-    a
-}
-
-pub fn frame_lpc_q13(prev: [i16; 10], cur: [i16; 10]) -> [[i16; 10]; 4]
-    ensures { λ r. ⌜ r ≡ frameCoefficients prev cur ⌝ }
-{
-    let mut out = [[0i16; 10]; 4];
-    let mut k: usize = 0;
-    while k < 4 {
-        let lsp = lsp_interpolate(k, prev, cur);
-        let set = lsp_to_lpc_q13(lsp);
-        out[k] = set;
-        k += 1;
-    }
-    out
 }
 
 fn predicted_lsp(mean: i16, prev: i16) -> i16

@@ -1,11 +1,14 @@
 use mathlib.Core.Path.{_≡_, sym, _∙_}
 use mathlib.Core.Logic.{⊎-elim}
-use Prim.Native.Nat.{_-_, _≤_}
+use Prim.Native.Nat.{_+_, _-_, _≤_}
 use native.Mathlib.Omega.{arith}
+use lib.IntN.{_-ℤ_}
+use lib.Signed.{ltZ}
 use mir.Syntax.{w16}
 use mir.Val.{toZ, ofZ}
 use mir.Facts.{toZ-ofZ}
-use Rattle.integers.specs.Signed.{signed}
+use Rattle.integers.specs.Base.{entry}
+use Rattle.integers.specs.Signed.{read-back}
 use Rattle.lsp.specs.Lsps.{short, anyTo}
 use Rattle.lsp.proofs.Passes.{any-zero, any-step}
 use Rattle.lsp.proofs.any_short.Statement.{statement}
@@ -48,8 +51,15 @@ loop-again : tie.Need-loop-again Inv-loop μ-loop
 loop-again c =
     let b = c .before .before in
     let j = b .loop .j in
-    let t = short (toZ w16 (ofZ w16 (b .before .args .minimum))) (b .before .args .t1) in
-    (omega arith, rw (any-step t j, sym (b .loop .inv .1)) (⊎-elim (λ w. rw (w .0 .taken) (w .1 ∙ w .0 .taken)) (λ w. rw (w .0 .left) (w .4 ∙ w .3 .ensures ∙ search signed)) (c .if1 .came)))
+    let p = b .before .args .t1 in
+    let m = toZ w16 (ofZ w16 (b .before .args .minimum)) in
+    let t = short m p in (
+      omega arith,
+      rw (any-step t j, sym (b .loop .inv .1))
+          (⊎-elim (λ w. rw (w .0 .taken) (w .1 ∙ w .0 .taken))
+          (λ w. rw (w .0 .left) (w .4 ∙ w .3 .ensures ∙ (λ i. ltZ (read-back w16 (entry p (j + 1)) (w .2 .given) i -ℤ read-back w16 (entry p j) (w .1 .given) i) m)))
+          (c .if1 .came)),
+    )
 
 last : (c : tie.After-loop Inv-loop μ-loop) → c .before .loop .j ≡ 9
 last c = omega arith

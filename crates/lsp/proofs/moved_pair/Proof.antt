@@ -6,8 +6,8 @@ use lib.ListN.{set}
 use mir.Syntax.{w16}
 use mir.Val.{toZ, ofZ}
 use Rattle.integers.specs.Base.{entry, floorDiv}
-use Rattle.integers.specs.Expression.{is-arg, is-quot}
-use Rattle.integers.specs.Signed.{signed, back, read-back}
+use Rattle.integers.specs.Expression.{is-arg, is-quot, need-quot}
+use Rattle.integers.specs.Signed.{back, read-back}
 use Rattle.basicop.specs.Operators.{add16, sub16}
 use Rattle.lsp.specs.Lsps.{average}
 use Rattle.lsp.proofs.moved_pair.Statement.{statement}
@@ -32,7 +32,7 @@ midpoint-requires : tie.Need-midpoint-requires
 midpoint-requires c κs = tt
 
 div-half : tie.Need-div-half
-div-half c = search signed
+div-half c = let f = c .before .before .before .fits .minimum in (omega arith, need-quot 2 (is-arg f) f)
 
 sub-requires : tie.Need-sub-requires
 sub-requires c κs = tt

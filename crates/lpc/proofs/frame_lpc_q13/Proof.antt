@@ -3,9 +3,10 @@ use Prim.Native.Nat.{_-_}
 use native.Mathlib.Omega.{arith}
 use Rattle.integers.specs.Base.{Fills}
 use Rattle.integers.specs.Fill.{fills-start, fills-next, fills-end}
-use Rattle.lsp.specs.Lsps.{interpolated, coefficients}
-use Rattle.lsp.proofs.frame_lpc_q13.Statement.{statement}
-use Rattle.lsp.proofs.frame_lpc_q13.Tie as tie
+use Rattle.lsp.specs.Lsps.{interpolated}
+use Rattle.lpc.specs.Lpc.{coefficients}
+use Rattle.lpc.proofs.frame_lpc_q13.Statement.{statement}
+use Rattle.lpc.proofs.frame_lpc_q13.Tie as tie
 
 abbrev Inv-loop : tie.InvT-loop
 Inv-loop prev cur out₀ k₀ out k = Fills (λ n. coefficients (interpolated n prev cur)) 4 out k

@@ -3,7 +3,7 @@ use mathlib.Core.Path.{_≡_, refl, ap, _∙_, subst}
 use mathlib.Core.Bool.{true, false}
 use Prim.Native.Nat.{ℕ, _+_, _*_, _/_, _%_, _^_, _≤_, _<_}
 use native.Mathlib.Omega.{arith}
-use lib.Dec.{T, lit≤}
+use lib.Dec.{lit≤}
 use lib.IntN.{ℤ, pos, negsuc, natAbs, _+ℤ_, _-ℤ_, _*ℤ_}
 use lib.Signed.{ltZ}
 use mir.Syntax.{w16}
@@ -11,12 +11,13 @@ use mir.Val.{SFits}
 use Rattle.integers.specs.Base.{floorDiv, entry, up, Within}
 use Rattle.integers.specs.Bound.{fits-within, within-add, within-mul, within-le, within-shr-by}
 use Rattle.integers.specs.Natural.{none-below-zero}
+use Rattle.integers.specs.Signed.{natural}
 use Rattle.integers.specs.Linear.{mul-pos, line, line-mul, line-shr, line-fits}
 use Rattle.integers.specs.Saturation.{saturated-same}
 use Rattle.tables.specs.Tables.{cosines}
 use Rattle.tables.specs.Rules.{cosine-rule}
 use Rattle.basicop.specs.Operators.{word16, add16, sub16, mult16, shl16}
-use Rattle.lsp.specs.Lsps.{between, cosine}
+use Rattle.lpc.specs.Lpc.{between, cosine}
 
 -- ---- a negative LSP is read as 0
 
@@ -25,8 +26,7 @@ up-negative (pos n) h = none-below-zero n h
 up-negative (negsuc n) h = refl
 
 pub up-nonneg : (z : ℤ) → ltZ z (pos 0) ≡ false → natAbs z ≡ up z
-up-nonneg (pos n) h = refl
-up-nonneg (negsuc n) h = absurd (subst T h tt)
+up-nonneg z h = natural z (omega line) .2
 
 -- ---- sizes
 

@@ -4,10 +4,10 @@ use native.Mathlib.Omega.{arith}
 use mir.Syntax.{w16}
 use Rattle.integers.specs.Base.{entry, tabulate}
 use Rattle.integers.specs.Signed.{back, read-back, all-fit}
-use Rattle.lsp.specs.Lsps.{cosine, timesFactor, product}
-use Rattle.lsp.proofs.Products.{factorCosine, polynomial-within, product-zero, product-step}
-use Rattle.lsp.proofs.expanded.Statement.{statement}
-use Rattle.lsp.proofs.expanded.Tie as tie
+use Rattle.lpc.specs.Lpc.{cosine, timesFactor, product}
+use Rattle.lpc.proofs.Products.{factorCosine, polynomial-within, product-zero, product-step}
+use Rattle.lpc.proofs.expanded.Statement.{statement}
+use Rattle.lpc.proofs.expanded.Tie as tie
 
 abbrev Inv-loop : tie.InvT-loop
 Inv-loop first lsp p₀ k₀ p k = (k ≤ 5) × (p ≡ tabulate (product (factorCosine lsp first) k) 11)

@@ -5,9 +5,9 @@ use Rattle.integers.specs.Base.{floorDiv}
 use Rattle.integers.specs.Bound.{within-add, within-sub, within-mul, within-shr, within-fits, fits-within}
 use Rattle.integers.specs.Signed.{widen}
 use Rattle.integers.specs.Expression.{tree, is-arg, is-cast, is-mul, is-shr, is-sub, is-add}
-use Rattle.lsp.specs.Lsps.{factorTerm}
-use Rattle.lsp.proofs.term.Statement.{statement}
-use Rattle.lsp.proofs.term.Tie as tie
+use Rattle.lpc.specs.Lpc.{factorTerm}
+use Rattle.lpc.proofs.term.Statement.{statement}
+use Rattle.lpc.proofs.term.Tie as tie
 
 fits : (s : tie.Start) → let a = s .args in
     SFits w64 (a .y *ℤ a .c) × SFits w64 (a .x -ℤ floorDiv (a .y *ℤ a .c) 8192) × SFits w64 (factorTerm (a .c) (a .x) (a .y) (a .z))

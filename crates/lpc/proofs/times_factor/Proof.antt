@@ -9,10 +9,10 @@ use Rattle.integers.specs.Base.{Fills, entry, tabulate}
 use Rattle.integers.specs.Signed.{back, read-back}
 use Rattle.integers.specs.Expression.{is-mag, is-result, within-is}
 use Rattle.integers.specs.Fill.{fills-start, fills-next, fills-end}
-use Rattle.lsp.specs.Lsps.{factorTerm, timesFactor}
-use Rattle.lsp.proofs.Products.{delayed-within}
-use Rattle.lsp.proofs.times_factor.Statement.{statement}
-use Rattle.lsp.proofs.times_factor.Tie as tie
+use Rattle.lpc.specs.Lpc.{factorTerm, timesFactor}
+use Rattle.lpc.proofs.Products.{delayed-within}
+use Rattle.lpc.proofs.times_factor.Statement.{statement}
+use Rattle.lpc.proofs.times_factor.Tie as tie
 
 abbrev Inv-loop : tie.InvT-loop
 Inv-loop c p q₀ i₀ q i = Fills (timesFactor (entry p) (toZ w16 c)) 11 q i

@@ -8,9 +8,9 @@ use mir.Facts.{toZ-ofZ}
 use Rattle.integers.specs.Base.{up}
 use Rattle.integers.specs.Bound.{within-back}
 use Rattle.integers.specs.Signed.{nonneg, ltZ-back-left}
-use Rattle.lsp.proofs.Cosines.{up-negative, up-nonneg}
-use Rattle.lsp.proofs.table_place.Statement.{statement}
-use Rattle.lsp.proofs.table_place.Tie as tie
+use Rattle.lpc.proofs.Cosines.{up-negative, up-nonneg}
+use Rattle.lpc.proofs.table_place.Statement.{statement}
+use Rattle.lpc.proofs.table_place.Tie as tie
 
 cast-result : tie.Need-cast-result
 cast-result c =

@@ -4,8 +4,8 @@ use borrow.Author.Tests.{lt-ltb, le-ltb}
 use mir.Syntax.{w64}
 use Rattle.integers.specs.Base.{entry}
 use Rattle.integers.specs.Signed.{read-back}
-use Rattle.lsp.proofs.earlier.Statement.{statement}
-use Rattle.lsp.proofs.earlier.Tie as tie
+use Rattle.lpc.proofs.earlier.Statement.{statement}
+use Rattle.lpc.proofs.earlier.Tie as tie
 
 mul-result : tie.Need-mul-result
 mul-result c = omega arith

@@ -9,8 +9,8 @@ use Rattle.integers.specs.Bound.{within-add, within-sub, within-shr-by, within-
 use Rattle.integers.specs.Signed.{back}
 use Rattle.integers.specs.Expression.{tree, is-arg, is-lit, is-add, is-sub, is-shr, is-cast}
 use Rattle.basicop.specs.Operators.{word16}
-use Rattle.lsp.proofs.rounded_q13.Statement.{statement}
-use Rattle.lsp.proofs.rounded_q13.Tie as tie
+use Rattle.lpc.proofs.rounded_q13.Statement.{statement}
+use Rattle.lpc.proofs.rounded_q13.Tie as tie
 
 fits : (s : tie.Start) → let a = s .args in let sum = a .p1 +ℤ a .p0 +ℤ a .q1 -ℤ a .q0 in
     SFits w64 (a .p1 +ℤ a .p0) × SFits w64 (a .p1 +ℤ a .p0 +ℤ a .q1) × SFits w64 sum × SFits w64 (pos 1024 -ℤ floorDiv sum 2) × SFits w32 (floorDiv (pos 1024 -ℤ floorDiv sum 2) 2048)

@@ -9,9 +9,9 @@ use Rattle.integers.specs.Base.{entry, up}
 use Rattle.integers.specs.Signed.{signed, back}
 use Rattle.tables.specs.Tables.{cosines}
 use Rattle.basicop.specs.Operators.{add16, sub16, mult16, shl16}
-use Rattle.lsp.proofs.Cosines.{cosine-operators}
-use Rattle.lsp.proofs.cos_q14.Statement.{statement}
-use Rattle.lsp.proofs.cos_q14.Tie as tie
+use Rattle.lpc.proofs.Cosines.{cosine-operators}
+use Rattle.lpc.proofs.cos_q14.Statement.{statement}
+use Rattle.lpc.proofs.cos_q14.Tie as tie
 
 table-place-requires : tie.Need-table-place-requires
 table-place-requires c κs = tt

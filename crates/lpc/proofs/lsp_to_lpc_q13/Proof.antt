@@ -7,10 +7,10 @@ use Rattle.integers.specs.Base.{Fills, AllWithin, entry, tabulate}
 use Rattle.integers.specs.Signed.{back, read-back, all-fit}
 use Rattle.integers.specs.Expression.{is-mag, within-is}
 use Rattle.integers.specs.Fill.{fills-start, fills-next, fills-end}
-use Rattle.lsp.specs.Lsps.{roundedSum}
-use Rattle.lsp.proofs.Products.{polynomial-within, summed, summed-coefficients}
-use Rattle.lsp.proofs.lsp_to_lpc_q13.Statement.{statement}
-use Rattle.lsp.proofs.lsp_to_lpc_q13.Tie as tie
+use Rattle.lpc.specs.Lpc.{roundedSum}
+use Rattle.lpc.proofs.Products.{polynomial-within, summed, summed-coefficients}
+use Rattle.lpc.proofs.lsp_to_lpc_q13.Statement.{statement}
+use Rattle.lpc.proofs.lsp_to_lpc_q13.Tie as tie
 
 abbrev Inv-loop : tie.InvT-loop
 Inv-loop pz qz a₀ j₀ a j = Fills (summed pz qz) 10 a j

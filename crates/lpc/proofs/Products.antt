@@ -15,8 +15,8 @@ use Rattle.integers.specs.Natural.{cond-elim}
 use Rattle.integers.specs.Bound.{within-add, within-sub, within-mul, within-shr-by, within-le, within-weaken, within-lit, all-within-tabulate}
 use Rattle.integers.specs.Fill.{tabulate-at, tabulate-ext}
 use Rattle.tables.specs.Constants.{polynomialOne}
-use Rattle.lsp.specs.Lsps.{cosine, delayed, factorTerm, timesFactor, product, polynomial, roundedSum, coefficients}
-use Rattle.lsp.proofs.Cosines.{cosine-within}
+use Rattle.lpc.specs.Lpc.{cosine, delayed, factorTerm, timesFactor, product, polynomial, roundedSum, coefficients}
+use Rattle.lpc.proofs.Cosines.{cosine-within}
 
 -- ---- steps
 

@@ -1,0 +1,3 @@
+pub mod Cosines
+pub mod Products
+pub mod Values
