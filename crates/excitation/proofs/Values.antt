@@ -1,0 +1,27 @@
+-- Values at the limits of document 01's numbers, by computation.
+use mathlib.Core.Path.{_≡_, refl}
+use mathlib.Core.List.{[], _∷_}
+use lib.IntN.{pos, negsuc}
+use Rattle.integers.specs.Base.{sumTo}
+use Rattle.tables.specs.Tables.{gains}
+use Rattle.excitation.specs.Excitation.{limitedLag, tapSum, unvoicedGain}
+
+pub lag-of-minus-5 : limitedLag (negsuc 4) ≡ 18
+lag-of-minus-5 = refl
+
+pub lag-of-200 : limitedLag (pos 200) ≡ 142
+lag-of-200 = refl
+
+-- the largest gain, twice
+pub gain-of-23 : unvoicedGain 23 23 ≡ 13246
+unfolding gains
+gain-of-23 = refl
+
+-- taps of 1 and 1: their sum is above the largest
+pub tap-sum-above : tapSum (pos 16384 ∷ pos 16384 ∷ pos 0 ∷ pos 0 ∷ pos 0 ∷ []) ≡ pos 32767
+unfolding sumTo
+tap-sum-above = refl
+
+pub tap-sum-below : tapSum (negsuc 0 ∷ negsuc 1 ∷ negsuc 2 ∷ negsuc 3 ∷ negsuc 4 ∷ []) ≡ pos 0
+unfolding sumTo
+tap-sum-below = refl

@@ -1,0 +1,147 @@
+// Excitation: the adaptive part, its sum with the fixed vector, and the signal that holds the history and the frame, under
+// the Rust's names (qdec.rs). The Rust's excitation is i32, but always within 16 bits.
+ghost use mathlib.Core.Path.{_≡_};
+ghost use Prim.Native.Nat.{_*_, _^_, _≤_};
+ghost use lib.IntN.{pos, _+ℤ_};
+ghost use Rattle.integers.specs.Base.{tabulate, floorDiv, Within};
+ghost use Rattle.basicop.specs.Operators.{word16};
+ghost use Rattle.excitation.specs.Excitation.{place, withSubframe, limitedLag, delayed, adaptive, limitedSum, tapSum, unvoicedGain};
+
+pub enum Subframe {
+    Zero,
+    One,
+    Two,
+    Three,
+}
+
+// The place of a subframe's first sample in the signal.
+pub fn subframe_place(s: Subframe) -> usize
+    ensures { λ r. ⌜ r ≡ place s ⌝ }
+{
+    match s {
+        Subframe::Zero => 146,
+        Subframe::One => 206,
+        Subframe::Two => 266,
+        Subframe::Three => 326,
+    }
+}
+
+// A lag limited to 18..=142.
+pub fn limited_lag(lag: i32) -> usize
+    ensures { λ r. ⌜ r ≡ limitedLag lag ⌝ }
+{
+    if lag < tables::PITCH_MIN {
+        return tables::PITCH_MIN as usize;
+    }
+    if tables::PITCH_MAX < lag {
+        return tables::PITCH_MAX as usize;
+    }
+    lag as usize
+}
+
+// What the taps read: sixty samples and four more. Those that lie in the subframe itself repeat what was read a lag before.
+fn delayed_samples(signal: &[i16; 386], p: usize, l: usize) -> [i16; 64]
+    requires { ⌜ (146 ≤ p) × (p ≤ 326) ⌝ }
+    requires { ⌜ (18 ≤ l) × (l ≤ 142) ⌝ }
+    ensures { λ r. ⌜ r ≡ tabulate (delayed (now (signal .entry)) p l) 64 ⌝ }
+{
+    let mut e = [0i16; 64];
+    let mut m: usize = 0;
+    while m < 64 {
+        if m < l + 2 {
+            e[m] = signal[p - (l + 2) + m];
+        } else {
+            e[m] = e[m - l];
+        }
+        m += 1;
+    }
+    e
+}
+
+// Back from 16384ths, rounded.
+fn rounded_tap_sum(sum: i64) -> i32
+    requires { ⌜ Within (5 * 2 ^ 30) sum ⌝ }
+    ensures { λ r. ⌜ r ≡ floorDiv (sum +ℤ pos 8192) 16384 ⌝ }
+{
+    ((sum + 8192) >> 14) as i32
+}
+
+// The adaptive part of a subframe, from the signal before it. The Rust limits it to 32 bits, which 16-bit samples do not reach.
+pub fn acb_contribution(signal: &[i16; 386], s: Subframe, lag: i32, taps: [i16; 5]) -> [i32; 60]
+    ensures { λ r. ⌜ r ≡ adaptive (now (signal .entry)) (place s) (limitedLag lag) taps ⌝ }
+{
+    let p = subframe_place(s);
+    let l = limited_lag(lag);
+    let e = delayed_samples(signal, p, l);
+    let mut u = [0i32; 60];
+    let mut n: usize = 0;
+    while n < 60 {
+        let sum = correlation::correlate(&taps, 0, &e, n, 5);
+        u[n] = rounded_tap_sum(sum);
+        n += 1;
+    }
+    u
+}
+
+// A sample of the adaptive part and one of the fixed vector, limited to 16 bits.
+fn limited_sample(u: i32, v: i32) -> i16
+    ensures { λ r. ⌜ r ≡ word16 (u +ℤ v) ⌝ }
+{
+    basicop::saturate(basicop::l_add(u, v))
+}
+
+// The excitation of a subframe.
+pub fn excitation_sum(u: [i32; 60], v: [i32; 60]) -> [i16; 60]
+    ensures { λ r. ⌜ r ≡ limitedSum u v ⌝ }
+{
+    let mut e = [0i16; 60];
+    let mut n: usize = 0;
+    while n < 60 {
+        e[n] = limited_sample(u[n], v[n]);
+        n += 1;
+    }
+    e
+}
+
+// The signal with a subframe's excitation at its place. Where the Rust moves its history on, the place moves on here.
+pub fn push_excitation(signal: [i16; 386], s: Subframe, e: [i16; 60]) -> [i16; 386]
+    ensures { λ r. ⌜ r ≡ withSubframe signal (place s) e ⌝ }
+{
+    let p = subframe_place(s);
+    let mut x = signal;
+    let mut n: usize = 0;
+    while n < 60 {
+        x[p + n] = e[n];
+        n += 1;
+    }
+    x
+}
+
+// The tap sum that is stored for erased frames.
+pub fn tap_sum(taps: [i16; 5]) -> i32
+    ensures { λ r. ⌜ r ≡ tapSum taps ⌝ }
+{
+    let mut sum: i32 = 0;
+    let mut j: usize = 0;
+    while j < 5 {
+        sum += taps[j] as i32;
+        j += 1;
+    }
+    let twice = sum * 2;
+    if twice < 0 {
+        return 0;
+    }
+    if 32767 < twice {
+        return 32767;
+    }
+    twice
+}
+
+// The unvoiced gain that is stored for erased frames, from the gain indices of subframes 2 and 3.
+pub fn unvoiced_gain(index2: u8, index3: u8) -> i32
+    ensures { λ r. ⌜ r ≡ pos (unvoicedGain index2 index3) ⌝ }
+{
+    let g2 = pulses::doubled_gain(index2);
+    let g3 = pulses::doubled_gain(index3);
+    (g2 + g3) / 2
+}
