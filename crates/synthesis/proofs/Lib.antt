@@ -1,0 +1,5 @@
+pub mod Newest
+pub mod Fits
+pub mod Memories
+pub mod Samples
+pub mod Bounds
