@@ -1,0 +1,32 @@
+use mathlib.Core.Path.{_∙_, ap}
+use Prim.Native.Nat.{ℕ, _*_, _%_, _^_}
+use native.Mathlib.Nat.{mod-eq-of-lt, mul-comm}
+use lib.Dec.{ltb, lit≤}
+use Rattle.pitch.proofs.Sizes.{triple-fits}
+use Rattle.pitch.proofs.too_weak.Statement.{statement}
+use Rattle.pitch.proofs.too_weak.Tie as tie
+
+product-requires : tie.Need-product-requires
+product-requires c κs = tt
+
+times-requires : tie.Need-times-requires
+times-requires c κs = tt
+
+product-requires-2 : tie.Need-product-requires-2
+product-requires-2 c κs = tt
+
+less-requires : tie.Need-less-requires
+less-requires c κs = tt
+
+returns : tie.Need-returns
+returns c =
+    let t = c .before .before in
+    let s = t .before .before in
+    let a = s .args .c in
+    let fourfold =
+    t .times .ensures ∙ ap (λ (n : ℕ). n * 4 % 2 ^ 128) (t .before .product .ensures)
+    ∙ mod-eq-of-lt (triple-fits a a 4 (s .pre) (s .pre) (lit≤ tt)) ∙ mul-comm (a * a) 4 in
+    c .less .ensures ∙ (λ i. ltb (fourfold i) (c .before .product2 .ensures i))
+
+pub too-weak-spec : {M : Type 1} → statement M
+too-weak-spec = tie.close (tie.spec product-requires times-requires product-requires-2 less-requires returns)
