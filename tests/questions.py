@@ -4,13 +4,15 @@
 Operators of two operands: all pairs of edge values and a spread of others; l_mac a selection of them. Roots: at squares and
 beside them. Pairs of words: products, multiples, shifts, orders and quotients at edges and over a spread. LSPs: by classes of
 vectors, and by the passes that stabilising them takes. Pulses: codes at their limits, at each change of the first slot and at
-each weight, and descriptions by lag, gain, signs and pulses that meet.
+each weight, and descriptions by lag, gain, signs and pulses that meet. Excitation, synthesis and postfilters: signals.py.
 
 With --counts it prints instead how many vectors of LSPs each class has, with --codes every position code of both counts.
 """
 import math
 import random
 import sys
+
+import signals
 
 EDGES16 = [-32768, -32767, -16385, -16384, -16383, -257, -256, -2, -1, 0, 1, 2, 255, 256, 16383, 16384, 16385, 32766, 32767]
 EDGES32 = [-2147483648, -2147483647, -1073741825, -1073741824, -65537, -65536, -32769, -32768, -1, 0, 1, 32767, 32768, 65535, 65536, 1073741823, 1073741824, 2147450879, 2147450880, 2147483646, 2147483647]
@@ -338,6 +340,10 @@ def main():
     lsps(random.Random(7231))
     codes(rng)
     descriptions(rng)
+    signals.excitation(ask, rng)
+    signals.synthesis(ask, rng)
+    signals.pitch(ask, rng)
+    signals.formant(ask, rng)
 
 
 if __name__ == "__main__":

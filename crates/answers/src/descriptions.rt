@@ -1,14 +1,14 @@
 // Questions to crate pulses.
 use crate::input::Cursor;
-use crate::input::name;
 use crate::input::next_word;
+use crate::names;
 use crate::output::print_sixty;
 use crate::output::print_slots;
 use pulses::Count;
 use pulses::Description;
 
 pub(crate) fn is_pulse(n: u64) -> bool {
-    n == name(b"fcbk_unpk_positions") || n == name(b"mpmlq_fixed_vector")
+    n == names::FCBK_UNPK_POSITIONS || n == names::MPMLQ_FIXED_VECTOR
 }
 
 fn unsigned32(size: u64) -> u32 {
@@ -73,7 +73,7 @@ fn vector(buf: &mut [u8], c: Cursor) -> Cursor {
 
 // Answers a question, of which the name is read.
 pub(crate) fn answer(buf: &mut [u8], n: u64, c: Cursor) -> Cursor {
-    if n == name(b"fcbk_unpk_positions") {
+    if n == names::FCBK_UNPK_POSITIONS {
         positions(buf, c)
     } else {
         vector(buf, c)

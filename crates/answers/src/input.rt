@@ -12,7 +12,7 @@ struct Byte {
     cursor: Cursor,
 }
 
-// A word: a number that all its bytes go into, and what it is as a decimal number. No two names of questions have the same.
+// A word: a number that all its bytes go into, and what it is as a decimal number. names.rt has those of the questions.
 pub(crate) struct Word {
     pub(crate) name: u64,
     pub(crate) negative: bool,
@@ -108,17 +108,6 @@ pub(crate) fn next_word(buf: &mut [u8], c: Cursor) -> Read {
     Read { word: w, cursor: k }
 }
 
-// What a name is as the number of a word.
-pub(crate) fn name(text: &[u8]) -> u64 {
-    let mut n: u64 = 0;
-    let mut i = 0;
-    while i < text.len() {
-        n = appended(n, text[i]);
-        i += 1;
-    }
-    n
-}
-
 // The number of a word, or the nearest that fits.
 pub(crate) fn number64(w: Word) -> i64 {
     if w.size > 0x7FFF_FFFF_FFFF_FFFF {
@@ -134,4 +123,33 @@ pub(crate) fn number32(w: Word) -> i32 {
 
 pub(crate) fn number16(w: Word) -> i16 {
     basicop::saturate(number32(w))
+}
+
+pub(crate) fn number8(w: Word) -> u8 {
+    (w.size % 256) as u8
+}
+
+// Numbers into a list; the place after them.
+pub(crate) fn next_list(buf: &mut [u8], c: Cursor, values: &mut [i16]) -> Cursor {
+    let mut k = c;
+    let mut i: usize = 0;
+    while i < values.len() {
+        let r = next_word(buf, k);
+        values[i] = number16(r.word);
+        k = r.cursor;
+        i += 1;
+    }
+    k
+}
+
+pub(crate) fn next_wide_list(buf: &mut [u8], c: Cursor, values: &mut [i32]) -> Cursor {
+    let mut k = c;
+    let mut i: usize = 0;
+    while i < values.len() {
+        let r = next_word(buf, k);
+        values[i] = number32(r.word);
+        k = r.cursor;
+        i += 1;
+    }
+    k
 }

@@ -1,88 +1,65 @@
 // Questions to crates lsp and lpc.
 use crate::input::Cursor;
 use crate::input::Word;
-use crate::input::name;
+use crate::input::next_list;
 use crate::input::next_word;
 use crate::input::number16;
+use crate::names;
 use crate::output::print_sets;
 use crate::output::print_stabilised;
 use crate::output::print_ten;
 use crate::output::print16;
 
-// Ten numbers, and the place after them.
-struct Ten {
-    values: [i16; 10],
-    cursor: Cursor,
-}
-
-fn next_ten(buf: &mut [u8], c: Cursor) -> Ten {
-    let mut values = [0i16; 10];
-    let mut k = c;
-    let mut i: usize = 0;
-    while i < 10 {
-        let r = next_word(buf, k);
-        values[i] = number16(r.word);
-        k = r.cursor;
-        i += 1;
-    }
-    Ten {
-        values: values,
-        cursor: k,
-    }
-}
-
 pub(crate) fn is_lsp(n: u64) -> bool {
     is_led(n)
-        || n == name(b"cos_q14")
-        || n == name(b"lsp_extrapolate")
-        || n == name(b"lsp_to_lpc_q13")
-        || n == name(b"frame_lpc_q13")
+        || n == names::COS_Q14
+        || n == names::LSP_EXTRAPOLATE
+        || n == names::LSP_TO_LPC_Q13
+        || n == names::FRAME_LPC_Q13
 }
 
 // A number leads the lists.
 fn is_led(n: u64) -> bool {
-    n == name(b"lsp_stability")
-        || n == name(b"lsp_check_or_previous")
-        || n == name(b"lsp_interpolate")
+    n == names::LSP_STABILITY || n == names::LSP_CHECK_OR_PREVIOUS || n == names::LSP_INTERPOLATE
 }
 
 fn led(buf: &mut [u8], n: u64, lead: Word, c: Cursor) -> Cursor {
-    let first = next_ten(buf, c);
-    let p = first.values;
-    if n == name(b"lsp_stability") {
+    let mut p = [0i16; 10];
+    let k = next_list(buf, c, &mut p);
+    if n == names::LSP_STABILITY {
         print_stabilised(lsp::lsp_stability(p, number16(lead)));
-        return first.cursor;
+        return k;
     }
-    let second = next_ten(buf, first.cursor);
-    let q = second.values;
-    if n == name(b"lsp_check_or_previous") {
+    let mut q = [0i16; 10];
+    let l = next_list(buf, k, &mut q);
+    if n == names::LSP_CHECK_OR_PREVIOUS {
         print_ten(lsp::lsp_check_or_previous(p, q, number16(lead)));
     } else {
         print_ten(lsp::lsp_interpolate(lead.size as usize, p, q));
     }
-    second.cursor
+    l
 }
 
 fn lists(buf: &mut [u8], n: u64, c: Cursor) -> Cursor {
-    let first = next_ten(buf, c);
-    let p = first.values;
-    if n == name(b"lsp_extrapolate") {
+    let mut p = [0i16; 10];
+    let k = next_list(buf, c, &mut p);
+    if n == names::LSP_EXTRAPOLATE {
         print_ten(lsp::lsp_extrapolate(p));
-        return first.cursor;
+        return k;
     }
-    if n == name(b"lsp_to_lpc_q13") {
+    if n == names::LSP_TO_LPC_Q13 {
         print_ten(lpc::lsp_to_lpc_q13(p));
-        return first.cursor;
+        return k;
     }
-    let second = next_ten(buf, first.cursor);
-    let q = second.values;
+    let mut q = [0i16; 10];
+    let l = next_list(buf, k, &mut q);
     print_sets(lpc::frame_lpc_q13(p, q));
-    second.cursor
+    l
 }
 
 // Answers a question, of which the name is read.
 pub(crate) fn answer(buf: &mut [u8], n: u64, c: Cursor) -> Cursor {
-    if n == name(b"cos_q14") {
+    if n == names::COS_Q14 {
         let r = next_word(buf, c);
         print16(lpc::cos_q14(number16(r.word)));
         return r.cursor;

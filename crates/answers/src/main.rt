@@ -4,9 +4,11 @@
 mod descriptions;
 mod input;
 mod lsps;
+mod names;
 mod operators;
 mod output;
 mod pairs;
+mod signals;
 
 use input::Cursor;
 
@@ -24,6 +26,9 @@ fn question(buf: &mut [u8], c: Cursor) -> Cursor {
     }
     if descriptions::is_pulse(n) {
         return descriptions::answer(buf, n, k);
+    }
+    if signals::is_signal(n) {
+        return signals::answer(buf, n, k);
     }
     let first = input::next_word(buf, k);
     if pairs::is_pair(n) {

@@ -2,11 +2,11 @@
 use crate::input::Cursor;
 use crate::input::Read;
 use crate::input::Word;
-use crate::input::name;
 use crate::input::next_word;
 use crate::input::number16;
 use crate::input::number32;
 use crate::input::number64;
+use crate::names;
 use crate::output::print16;
 use crate::output::print32;
 use crate::output::print64;
@@ -14,11 +14,11 @@ use crate::output::unknown;
 
 // Two 16-bit operands.
 fn binary16(n: u64, a: i16, b: i16) {
-    if n == name(b"add") {
+    if n == names::ADD {
         print16(basicop::add(a, b));
-    } else if n == name(b"sub") {
+    } else if n == names::SUB {
         print16(basicop::sub(a, b));
-    } else if n == name(b"mult") {
+    } else if n == names::MULT {
         print16(basicop::mult(a, b));
     } else {
         print32(basicop::l_mult(a, b));
@@ -27,7 +27,7 @@ fn binary16(n: u64, a: i16, b: i16) {
 
 // A 16-bit number and a count.
 fn shift(n: u64, a: i16, count: i32) {
-    if n == name(b"shl") {
+    if n == names::SHL {
         print16(basicop::shl(a, count));
     } else {
         print16(basicop::shr(a, count));
@@ -36,13 +36,13 @@ fn shift(n: u64, a: i16, count: i32) {
 
 // One operand.
 fn unary(n: u64, w: Word) {
-    if n == name(b"isqrt64") {
+    if n == names::ISQRT64 {
         print64(basicop::isqrt64(w.size) as u64);
-    } else if n == name(b"sat32") {
+    } else if n == names::SAT32 {
         print32(basicop::sat32(number64(w)));
-    } else if n == name(b"saturate") {
+    } else if n == names::SATURATE {
         print16(basicop::saturate(number32(w)));
-    } else if n == name(b"extract_h") {
+    } else if n == names::EXTRACT_H {
         print16(basicop::extract_h(number32(w)));
     } else {
         print16(basicop::round16(number32(w)));
@@ -50,19 +50,19 @@ fn unary(n: u64, w: Word) {
 }
 
 fn is_unary(n: u64) -> bool {
-    n == name(b"isqrt64")
-        || n == name(b"sat32")
-        || n == name(b"saturate")
-        || n == name(b"extract_h")
-        || n == name(b"round16")
+    n == names::ISQRT64
+        || n == names::SAT32
+        || n == names::SATURATE
+        || n == names::EXTRACT_H
+        || n == names::ROUND16
 }
 
 fn is_binary16(n: u64) -> bool {
-    n == name(b"add") || n == name(b"sub") || n == name(b"mult") || n == name(b"l_mult")
+    n == names::ADD || n == names::SUB || n == names::MULT || n == names::L_MULT
 }
 
 fn is_shift(n: u64) -> bool {
-    n == name(b"shl") || n == name(b"shr")
+    n == names::SHL || n == names::SHR
 }
 
 // A question with two operands or three, of which the first is read.
@@ -75,9 +75,9 @@ fn several(buf: &mut [u8], n: u64, first: Read) -> Cursor {
         binary16(n, number16(a), number16(b));
     } else if is_shift(n) {
         shift(n, number16(a), number32(b));
-    } else if n == name(b"l_add") {
+    } else if n == names::L_ADD {
         print32(basicop::l_add(number32(a), number32(b)));
-    } else if n == name(b"l_mac") {
+    } else if n == names::L_MAC {
         let third = next_word(buf, end);
         print32(basicop::l_mac(number32(a), number16(b), number16(third.word)));
         end = third.cursor;

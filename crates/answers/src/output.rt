@@ -10,7 +10,7 @@ fn signed(x: i32) {
     }
 }
 
-fn end_line() {
+pub(crate) fn end_line() {
     io::write_all(1, b"\n");
 }
 
@@ -36,19 +36,29 @@ pub(crate) fn print_pair(w: wide::Wide) {
 }
 
 // A number of a list, after a space but for the first of its line.
-fn item(x: i32, first: bool) {
+pub(crate) fn item(x: i32, first: bool) {
     if !first {
         io::write_all(1, b" ");
     }
     signed(x);
 }
 
-fn ten(p: [i16; 10], first: bool) {
+// A 16-bit number after others.
+pub(crate) fn item16(x: i16) {
+    item(x as i32, false);
+}
+
+// Numbers of a list, the first of its line or after others.
+pub(crate) fn list(values: &[i16], first: bool) {
     let mut i: usize = 0;
-    while i < 10 {
-        item(p[i] as i32, first && i == 0);
+    while i < values.len() {
+        item(values[i] as i32, first && i == 0);
         i += 1;
     }
+}
+
+fn ten(p: [i16; 10], first: bool) {
+    list(&p, first);
 }
 
 pub(crate) fn print_ten(p: [i16; 10]) {
@@ -70,7 +80,7 @@ pub(crate) fn print_sets(a: [[i16; 10]; 4]) {
 pub(crate) fn print_stabilised(s: lsp::Stabilised) {
     signed(if s.passed { 1 } else { 0 });
     let p = s.lsps;
-    ten(p, false);
+    list(&p, false);
     end_line();
 }
 

@@ -1,27 +1,27 @@
 // Questions to crate wide.
 use crate::input::Cursor;
 use crate::input::Read;
-use crate::input::name;
 use crate::input::next_word;
+use crate::names;
 use crate::output::print_pair;
 use crate::output::print64;
 use wide::Wide;
 
 pub(crate) fn is_pair(n: u64) -> bool {
-    n == name(b"wide_product")
-        || n == name(b"wide_times")
-        || n == name(b"wide_shift")
-        || n == name(b"wide_less")
-        || n == name(b"wide_divide")
+    n == names::WIDE_PRODUCT
+        || n == names::WIDE_TIMES
+        || n == names::WIDE_SHIFT
+        || n == names::WIDE_LESS
+        || n == names::WIDE_DIVIDE
 }
 
 fn is_times(n: u64) -> bool {
-    n == name(b"wide_times") || n == name(b"wide_shift")
+    n == names::WIDE_TIMES || n == names::WIDE_SHIFT
 }
 
 // A pair and a word.
 fn times(n: u64, a: Wide, b: u64) {
-    if n == name(b"wide_times") {
+    if n == names::WIDE_TIMES {
         print_pair(wide::times(a, b));
     } else {
         print_pair(wide::shift_left(a, (b % 0x1_0000_0000) as u32));
@@ -30,7 +30,7 @@ fn times(n: u64, a: Wide, b: u64) {
 
 // Two pairs.
 fn binary(n: u64, a: Wide, b: Wide) {
-    if n == name(b"wide_less") {
+    if n == names::WIDE_LESS {
         print64(if wide::less(a, b) { 1 } else { 0 });
     } else {
         print_pair(wide::divide(a, b));
@@ -69,7 +69,7 @@ pub(crate) fn answer(buf: &mut [u8], n: u64, first: Read) -> Cursor {
         lo: w.size,
     };
     let end = second.cursor;
-    if n == name(b"wide_product") {
+    if n == names::WIDE_PRODUCT {
         print_pair(wide::product(a.hi, a.lo));
         return end;
     }

@@ -93,7 +93,7 @@ impl QSynthesis {
     }
 
     /// The excitation of subframe `s`, saved in the frame's and pushed to the history.
-    fn excitation_subframe(
+    pub(super) fn excitation_subframe(
         &mut self,
         p: &Frame,
         s: usize,

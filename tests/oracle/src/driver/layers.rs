@@ -18,6 +18,8 @@
 //! fcbk_unpk_positions code n              slots, or `none`
 //! mpmlq_fixed_vector code signs grid n gain_index train lag      v(60)
 //! acb_contribution lag taps(5) hist(146)  u(60)
+//! excitation_subframe s lag taps(5) v(60) hist(146)             hist(146), after the subframe
+//! record_last_frame taps(5) gain_index gain_index               tap sum, unvoiced gain
 //! synthesis_subframe a(10) x(60) mem(10)  out(60) mem(10)
 //! pitch_postfilter kind start lag hist(146) frame(240)           out(60); kind 1 High, 2 Low
 //! formant_agc_subframe a(10) sy(60) num(10) den(10) tilt_prev tilt_k1 gain
@@ -29,7 +31,7 @@
 use std::panic::{AssertUnwindSafe, catch_unwind};
 
 use super::super::*;
-use super::frame::doubled_gain;
+use super::frame::{Fixed, Frame, doubled_gain};
 use super::state;
 use crate::numbers::{Numbers, text};
 use crate::spec_tables::fcbk_unpk_positions;
@@ -38,7 +40,7 @@ use crate::spec_tables::fcbk_unpk_positions;
 type Layer = fn(&mut Numbers) -> Option<String>;
 
 /// Each layer with the count of its numbers. All are taken before the function is called.
-const LAYERS: [(&str, usize, Layer); 33] = [
+const LAYERS: [(&str, usize, Layer); 35] = [
     ("saturate", 1, |q| one(saturate(q.one()?))),
     ("add", 2, |q| one(add(q.one()?, q.one()?))),
     ("sub", 2, |q| one(sub(q.one()?, q.one()?))),
@@ -69,6 +71,8 @@ const LAYERS: [(&str, usize, Layer); 33] = [
     ("fcbk_unpk_positions", 2, positions),
     ("mpmlq_fixed_vector", 7, pulse_vector),
     ("acb_contribution", 152, adaptive),
+    ("excitation_subframe", 213, excitation),
+    ("record_last_frame", 7, last_frame),
     ("synthesis_subframe", 80, synthesis),
     ("pitch_postfilter", 389, pitch),
     ("formant_agc_subframe", 93, formant_tilt_gain),
@@ -178,6 +182,37 @@ fn adaptive(q: &mut Numbers) -> Option<String> {
     let (lag, taps) = (q.one()?, q.array()?);
     let hist: [i32; EXC_HIST] = q.array()?;
     list(acb_contribution(&hist, lag, &taps))
+}
+
+/// The history after a subframe: the adaptive part, the sum with the fixed vector, and the push.
+fn excitation(q: &mut Numbers) -> Option<String> {
+    let (s, lag, taps) = (q.one()?, q.one()?, q.array()?);
+    if s >= SUBFRAMES_PER_FRAME {
+        return None;
+    }
+    let frame = Frame {
+        rate: PackedRate::Low,
+        candidate: [0; LPC_ORDER],
+        acl: [0; SUBFRAMES_PER_FRAME],
+        taps: [taps; SUBFRAMES_PER_FRAME],
+        gain_index: [0; SUBFRAMES_PER_FRAME],
+        fixed: [Fixed::Vector(q.array()?); SUBFRAMES_PER_FRAME],
+    };
+    let mut state = QSynthesis::new();
+    state.exc_hist = q.array()?;
+    let lags = [lag; SUBFRAMES_PER_FRAME];
+    state.excitation_subframe(&frame, s, &lags, 0, &mut [0; FRAME_SIZE_SAMPLES]);
+    list(state.exc_hist)
+}
+
+/// What is stored of the taps of subframe 3 and of the gains of subframes 2 and 3.
+fn last_frame(q: &mut Numbers) -> Option<String> {
+    let taps: [i16; ACB_TAPS] = q.array()?;
+    let sum = taps.iter().map(|&t| t as i32 * 2).sum();
+    let (g2, g3) = (doubled_gain(q.one()?)?, doubled_gain(q.one()?)?);
+    let mut state = QSynthesis::new();
+    state.record_last_frame(&[0; SUBFRAMES_PER_FRAME], sum, g2 as i32, g3 as i32);
+    list([state.last_taps_sum_q15, state.last_gain_unvoiced])
 }
 
 /// One subframe of synthesis, then the memory.

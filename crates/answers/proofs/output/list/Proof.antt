@@ -1,14 +1,15 @@
 use Prim.Native.Nat.{_-_, _≤_}
 use borrow.Author.Needs.{needs}
+use lib.ListN.{length}
 use Rattle.integers.specs.Signed.{signed}
-use Rattle.answers.proofs.output.ten.Statement.{statement}
-use Rattle.answers.proofs.output.ten.Tie as tie
+use Rattle.answers.proofs.output.list.Statement.{statement}
+use Rattle.answers.proofs.output.list.Tie as tie
 
 abbrev Inv-loop : tie.InvT-loop
-Inv-loop first p i₀ i = i ≤ 10
+Inv-loop values first i₀ i = i ≤ length values
 
 abbrev μ-loop : tie.MeasureT-loop
-μ-loop first p i₀ i = 10 - i
+μ-loop values first i₀ i = length values - i
 
 loop-holds : tie.Need-loop-holds Inv-loop μ-loop
 loop-holds c = search needs
@@ -16,8 +17,8 @@ loop-holds c = search needs
 mul-item : tie.Need-mul-item Inv-loop μ-loop
 mul-item c = search needs
 
-array-copy-out-item : tie.Need-array-copy-out-item Inv-loop μ-loop
-array-copy-out-item c = search needs
+shared-slice-copy-out-item : tie.Need-shared-slice-copy-out-item Inv-loop μ-loop
+shared-slice-copy-out-item c = search needs
 
 cast-item : tie.Need-cast-item Inv-loop μ-loop
 cast-item c = search signed
@@ -37,15 +38,15 @@ loop-again c = search needs
 returns : tie.Need-returns Inv-loop μ-loop
 returns c = search needs
 
-pub ten-spec : {M : Type 1} → statement M
-ten-spec =
+pub list-spec : {M : Type 1} → statement M
+list-spec =
     tie.close
     (tie.spec
     Inv-loop
     μ-loop
     loop-holds
     mul-item
-    array-copy-out-item
+    shared-slice-copy-out-item
     cast-item
     item-requires
     add-i

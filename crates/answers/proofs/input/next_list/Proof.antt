@@ -2,14 +2,14 @@ use mathlib.Core.Path.{_≡_}
 use Prim.Native.Nat.{_-_, _≤_}
 use borrow.Author.Needs.{needs}
 use lib.ListN.{length}
-use Rattle.answers.proofs.lsps.next_ten.Statement.{statement}
-use Rattle.answers.proofs.lsps.next_ten.Tie as tie
+use Rattle.answers.proofs.input.next_list.Statement.{statement}
+use Rattle.answers.proofs.input.next_list.Tie as tie
 
 abbrev Inv-loop : tie.InvT-loop
-Inv-loop buf₀ values₀ k₀ i₀ buf values k i = (i ≤ 10) × (length buf ≡ length buf₀)
+Inv-loop buf₀ values₀ k₀ i₀ buf values k i = (i ≤ length values₀) × (length buf ≡ length buf₀) × (length values ≡ length values₀)
 
 abbrev μ-loop : tie.MeasureT-loop
-μ-loop buf₀ values₀ k₀ i₀ buf values k i = 10 - i
+μ-loop buf₀ values₀ k₀ i₀ buf values k i = length values₀ - i
 
 loop-holds : tie.Need-loop-holds Inv-loop μ-loop
 loop-holds c = search needs
@@ -20,11 +20,11 @@ next-word-requires c κs = search needs
 number16-requires : tie.Need-number16-requires Inv-loop μ-loop
 number16-requires c κs = search needs
 
-mul-values : tie.Need-mul-values Inv-loop μ-loop
-mul-values c = search needs
+mul-t7 : tie.Need-mul-t7 Inv-loop μ-loop
+mul-t7 c = search needs
 
-array-set-from-values : tie.Need-array-set-from-values Inv-loop μ-loop
-array-set-from-values c = search needs
+slice-set-from-values : tie.Need-slice-set-from-values Inv-loop μ-loop
+slice-set-from-values c = search needs
 
 add-i : tie.Need-add-i Inv-loop μ-loop
 add-i c = search needs
@@ -38,11 +38,14 @@ loop-again c = search needs
 same-length : tie.Need-same-length Inv-loop μ-loop
 same-length c = search needs
 
+same-length-2 : tie.Need-same-length-2 Inv-loop μ-loop
+same-length-2 c = search needs
+
 returns : tie.Need-returns Inv-loop μ-loop
 returns c = search needs
 
-pub next-ten-spec : {M : Type 1} → statement M
-next-ten-spec =
+pub next-list-spec : {M : Type 1} → statement M
+next-list-spec =
     tie.close
     (tie.spec
     Inv-loop
@@ -50,10 +53,11 @@ next-ten-spec =
     loop-holds
     next-word-requires
     number16-requires
-    mul-values
-    array-set-from-values
+    mul-t7
+    slice-set-from-values
     add-i
     loop-less
     loop-again
     same-length
+    same-length-2
     returns)
