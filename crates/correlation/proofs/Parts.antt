@@ -26,7 +26,7 @@ low-within z = record {
       distance-le z (high z *ℤ pos 65536) (2 ^ 16) (omega (arith, line-mul (high z) 65536)) (omega (arith, line-mul (high z) 65536));
 }
 
--- the sums of the parts are parts of the sum
+-- the sum is made up of the sums of both parts
 pub parts-sum : (f : ℕ → ℤ) (n : ℕ) → sumTo (λ i. high (f i)) n *ℤ pos 65536 +ℤ sumTo (λ i. low (f i)) n ≡ sumTo f n
 unfolding sumTo
 parts-sum f zero = refl

@@ -42,8 +42,8 @@ fn joined(high: i32, low: i32) -> i64
     high as i64 * 65536 + low as i64
 }
 
-// High and low parts are summed apart, each in 32 bits: such sums are made of several products at once, where sums of 64
-// bits are made of one by one.
+// High and low parts are summed apart, each in 32 bits: the compiler makes such sums of several products at once, and sums of
+// 64 bits of one product at a time.
 fn sum_of_products(x: &[i16], a: usize, y: &[i16], b: usize, n: usize) -> i64
     requires { ⌜ (n ≤ length (now x) - a) × (n ≤ length (now y) - b) × (n ≤ 255) ⌝ }
     ensures { λ r. ⌜ r ≡ correlation (now (x .entry)) a (now (y .entry)) b n ⌝ }
