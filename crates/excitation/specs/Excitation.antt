@@ -30,6 +30,10 @@ history x p = take excHist (drop (p - excHist) x)
 abbrev pub withSubframe : List ℤ → ℕ → List ℤ → List ℤ
 withSubframe x p e = take p x ++ (e ++ drop (p + subframeSize) x)
 
+-- f of each subframe in turn
+abbrev pub inTurn : (List ℤ → Subframe → List ℤ) → List ℤ → List ℤ
+inTurn f x = f (f (f (f x Zero) One) Two) Three
+
 -- The Rust drops the oldest sixty samples of its history and appends those of the subframe: such is the history of what follows a subframe (proofs/Histories.antt).
 abbrev pub HistoryPushed : Type 0
 HistoryPushed =

@@ -1,6 +1,7 @@
 -- Definitions: Base. Laws: the other modules, each on one subject.
 pub mod Base
 pub mod Natural
+pub mod Truth
 pub mod Bound
 pub mod Signed
 pub mod Expression

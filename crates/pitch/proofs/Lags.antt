@@ -13,7 +13,7 @@ use Rattle.pitch.specs.Pitch.{window, lagCorrelation, lagEnergy, counts,
 use Rattle.pitch.specs.Search.{next}
 use Rattle.pitch.specs.declared.Direction.{Direction}
 use Rattle.pitch.specs.declared.Direction.the-variants.{Forward, Backward}
-use Rattle.pitch.proofs.Tests.{both}
+use Rattle.integers.specs.Truth.{both}
 
 -- ---- where its samples stand
 

@@ -14,7 +14,8 @@ use Rattle.pitch.specs.Search.{beats, Leads, Leading, Inside}
 use Rattle.pitch.specs.declared.Direction.{Direction}
 use Rattle.pitch.specs.declared.Best.{Best}
 use Rattle.pitch.specs.declared.Best.the-variants.{None, Lag}
-use Rattle.pitch.proofs.Tests.{clash, ltb-asym}
+use Rattle.integers.specs.Truth.{clash}
+use Rattle.pitch.proofs.Tests.{ltb-asym}
 use Rattle.pitch.proofs.Lags.{counted-inside, counted-loud}
 
 -- ---- the order of c²/d

@@ -363,6 +363,13 @@ fn applied_choice(x: &[i16; 386], rate: Rate, p: usize, t: u64, k: Choice) -> [i
     }
 }
 
+// The subframe as it is.
+pub fn plain_subframe(signal: &[i16; 386], s: Subframe) -> [i32; 60]
+    ensures { λ r. ⌜ r ≡ unchanged (now (signal .entry)) (place s) ⌝ }
+{
+    subframe(signal, excitation::subframe_place(s))
+}
+
 // A subframe of the frame's excitation, strengthened by what a pitch lag before or after it is like it.
 pub fn pitch_postfilter(signal: &[i16; 386], s: Subframe, lag: i32, rate: Rate) -> [i32; 60]
     ensures { λ r. ⌜ r ≡ postfiltered (now (signal .entry)) rate (place s) (limitedLag lag) ⌝ }

@@ -17,7 +17,7 @@ use Rattle.pitch.specs.Pitch.{lagCorrelation, lagEnergy, counts, c, d}
 use Rattle.pitch.specs.Search.{Leads, Small}
 use Rattle.pitch.specs.declared.Direction.{Direction}
 use Rattle.pitch.specs.declared.Best.{Best}
-use Rattle.pitch.proofs.Tests.{ltZ-not-leZ}
+use Rattle.integers.specs.Truth.{ltZ-not-leZ}
 use Rattle.pitch.proofs.Lags.{window-most, counts-not-inside, counts-not-alike, counts-not-loud, counts-all}
 use Rattle.pitch.proofs.Searches.{leads-uncounted, leads-beaten, leads-unbeaten}
 use Rattle.pitch.proofs.offered.Statement.{statement}
