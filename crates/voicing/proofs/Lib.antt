@@ -1,0 +1,5 @@
+pub mod Ranks
+pub mod Highest
+pub mod Weights
+pub mod Scores
+pub mod Leaders

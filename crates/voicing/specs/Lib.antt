@@ -1,0 +1,2 @@
+pub mod Voicing
+pub mod Search
