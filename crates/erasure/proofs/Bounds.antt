@@ -1,0 +1,37 @@
+-- Bounds of the attenuation, and that what is attenuated has a gain's type.
+use Prim.Native.Nat.{ℕ, zero, suc, _*_, _≤_}
+use native.Mathlib.Nat.{lt-of-le-of-lt, mul-le-mul, le-refl}
+use native.Mathlib.Omega.{arith}
+use lib.Dec.{lit≤, ltb}
+use lib.IntN.{ℤ, pos, negsuc, negℤ, _*ℤ_}
+use lib.Signed.{mag}
+use mir.Syntax.{Width}
+use mir.Val.{SFits}
+use Rattle.integers.specs.Base.{floorDiv}
+use Rattle.integers.specs.Natural.{cond-elim}
+use Rattle.tables.specs.Constants.{erasureMuteAfter}
+use Rattle.erasure.specs.Erasure.{threeQuartersTo, attenuation, attenuated}
+
+pub three-quarters-most : (n : ℕ) → threeQuartersTo n ≤ 32768
+unfolding threeQuartersTo
+three-quarters-most zero = lit≤ tt
+three-quarters-most (suc n) = omega (arith, three-quarters-most n)
+
+pub attenuation-most : (run : ℕ) → attenuation run ≤ 32768
+attenuation-most run =
+    cond-elim (ltb erasureMuteAfter run) 0 (threeQuartersTo run) (λ a. a ≤ 32768)
+    (λ t. lit≤ tt) (λ t. three-quarters-most run)
+
+-- a factor of at most 1 in 32768ths
+mag-lessened : (g : ℤ) (a : ℕ) → a ≤ 32768 → mag (floorDiv (g *ℤ pos a) 32768) ≤ mag g
+mag-lessened (pos n) a h = omega (arith, mul-le-mul (le-refl n) h)
+mag-lessened (negsuc n) a h = negated (suc n * a) (omega (arith, mul-le-mul (le-refl (suc n)) h))
+  where
+    negated : (k : ℕ) → k ≤ suc n * 32768 → mag (floorDiv (negℤ (pos k)) 32768) ≤ n
+    negated zero q = omega arith
+    negated (suc k) q = omega arith
+
+pub attenuated-fits : {w : Width} (g : ℤ) (run : ℕ) → SFits w g → SFits w (attenuated g run)
+attenuated-fits g run f = record {
+  sfits = lt-of-le-of-lt (mag-lessened g (attenuation run) (attenuation-most run)) (f .sfits);
+}

@@ -1,0 +1,4 @@
+pub mod Bounds
+pub mod Turns
+pub mod Values
+pub mod Words
