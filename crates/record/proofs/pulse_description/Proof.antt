@@ -1,0 +1,88 @@
+use mathlib.Core.Path.{_≡_, _∙_}
+use Prim.Native.Nat.{_+_, _*_, _/_, _%_, _≤_}
+use native.Mathlib.Omega.{arith}
+use lib.Dec.{eqb}
+use Rattle.pitch.specs.declared.Rate.the-variants.{High}
+use Rattle.record.specs.Record.{byte, blockPlace}
+use Rattle.record.proofs.Places.{place-bound}
+use Rattle.record.proofs.pulse_description.Statement.{statement}
+use Rattle.record.proofs.pulse_description.Tie as tie
+
+block-place-requires : tie.Need-block-place-requires
+block-place-requires c κs = tt
+
+place-small : (c : tie.After-block-place) → c .block-place .result ≤ 418
+place-small c = omega (arith, c .block-place .ensures, place-bound High (c .before .before .args .s))
+
+add-byte-at : tie.Need-add-byte-at
+add-byte-at c = omega (arith, place-small c)
+
+byte-at-requires : tie.Need-byte-at-requires
+byte-at-requires c κs = tt
+
+pulse-count-requires : tie.Need-pulse-count-requires
+pulse-count-requires c κs = tt
+
+base-lag-requires : tie.Need-base-lag-requires
+base-lag-requires c κs = tt
+
+add-code-at : tie.Need-add-code-at
+add-code-at c = omega (arith, place-small (c .before .before .before))
+
+code-at-requires : tie.Need-code-at-requires
+code-at-requires c κs = omega (arith, place-small (c .before .before .before))
+
+add-byte-at-2 : tie.Need-add-byte-at-2
+add-byte-at-2 c = omega (arith, place-small (c .before .before .before .before))
+
+byte-at-requires-2 : tie.Need-byte-at-requires-2
+byte-at-requires-2 c κs = tt
+
+add-byte-at-3 : tie.Need-add-byte-at-3
+add-byte-at-3 c = omega (arith, place-small (c .before .before .before .before .before))
+
+byte-at-requires-3 : tie.Need-byte-at-requires-3
+byte-at-requires-3 c κs = tt
+
+cast-t15 : tie.Need-cast-t15
+cast-t15 c = omega arith
+
+returns : tie.Need-returns
+returns c =
+    let g = c .before .before .before in
+    let f = g .before .before in
+    let a = f .before .before .before .args in
+    let r = a .«record» .now in
+    let p = f .before .block-place .ensures in
+    let flags : f .byte-at .result ≡ byte r (blockPlace High (a .s) + 11) = f .byte-at .ensures ∙ (λ i. byte r (p i + 11)) in
+    let middle : f .before .block-place .result + 13 + 1 ≡ blockPlace High (a .s) + 14 = omega (arith, p) in
+    let low : f .before .block-place .result + 13 + 2 ≡ blockPlace High (a .s) + 15 = omega (arith, p) in
+    let code = c .before .before .code-at .ensures in
+    λ i.
+    record {
+      count = g .before .pulse-count .ensures i;
+      train = eqb (flags i / 2 % 2) 1;
+      lag = g .base-lag .ensures i;
+      grid = eqb (flags i % 2) 1;
+      code = (code ∙ (λ j. byte r (p j + 13) * 65536 + byte r (middle j) * 256 + byte r (low j))) i;
+      signs = (c .before .byte-at2 .ensures ∙ (λ j. byte r (p j + 12))) i;
+      gain = (c .byte-at3 .ensures ∙ (λ j. byte r (p j + 10))) i;
+    }
+
+pub pulse-description-spec : {M : Type 1} → statement M
+pulse-description-spec =
+    tie.close
+    (tie.spec
+    block-place-requires
+    add-byte-at
+    byte-at-requires
+    pulse-count-requires
+    base-lag-requires
+    add-code-at
+    code-at-requires
+    add-byte-at-2
+    byte-at-requires-2
+    add-byte-at-3
+    byte-at-requires-3
+    cast-t15
+    returns)

@@ -1,0 +1,78 @@
+use mathlib.Core.Path.{refl, _∙_}
+use Prim.Native.Nat.{_+_, _-_, _*_}
+use native.Mathlib.Omega.{arith}
+use mir.Syntax.{w16, w32}
+use mir.Val.{SFits, ofZ}
+use Rattle.integers.specs.Base.{Is, Fills}
+use Rattle.integers.specs.Expression.{is-mag, is-cast, need-cast}
+use Rattle.integers.specs.Fill.{fills-start, fills-next, fills-end}
+use Rattle.integers.specs.Signed.{widen}
+use Rattle.record.specs.Record.{word}
+use Rattle.record.proofs.values_at.Statement.{statement}
+use Rattle.record.proofs.values_at.Tie as tie
+
+abbrev Inv-loop : tie.InvT-loop
+Inv-loop «record» at out₀ k₀ out k = Fills (λ j. word «record» (at + 2 * j)) 60 out k
+
+abbrev μ-loop : tie.MeasureT-loop
+μ-loop «record» at out₀ k₀ out k = 60 - k
+
+loop-holds : tie.Need-loop-holds Inv-loop μ-loop
+loop-holds c = fills-start refl
+
+mul-word-at : tie.Need-mul-word-at Inv-loop μ-loop
+mul-word-at c = omega arith
+
+add-word-at : tie.Need-add-word-at Inv-loop μ-loop
+add-word-at c = omega arith
+
+word-at-requires : tie.Need-word-at-requires Inv-loop μ-loop
+word-at-requires c κs = omega arith
+
+-- the value that a turn reads
+module _ (c : tie.After-word-at Inv-loop μ-loop) where
+  value : Is w16 (ofZ w16 (c .word-at .result)) (c .word-at .result)
+  value = is-mag (c .word-at .result) (c .word-at .ok)
+
+  value-fits : SFits w32 (c .word-at .result)
+  value-fits = widen {w = w16} (record { sfits = c .word-at .ok }) tt
+
+cast-out : tie.Need-cast-out Inv-loop μ-loop
+cast-out c = need-cast (value c) (value-fits c)
+
+mul-out : tie.Need-mul-out Inv-loop μ-loop
+mul-out c = omega arith
+
+array-set-from-out : tie.Need-array-set-from-out Inv-loop μ-loop
+array-set-from-out c = omega arith
+
+add-k : tie.Need-add-k Inv-loop μ-loop
+add-k c = omega arith
+
+loop-less : tie.Need-loop-less Inv-loop μ-loop
+loop-less c = omega arith
+
+loop-again : tie.Need-loop-again Inv-loop μ-loop
+loop-again c =
+    fills-next (c .before .before .loop .inv) (omega arith) (is-cast (value c) (value-fits c) .is ∙ c .word-at .ensures)
+
+returns : tie.Need-returns Inv-loop μ-loop
+returns c = fills-end (c .before .loop .inv) (c .loop-test .left)
+
+pub values-at-spec : {M : Type 1} → statement M
+values-at-spec =
+    tie.close
+    (tie.spec
+    Inv-loop
+    μ-loop
+    loop-holds
+    mul-word-at
+    add-word-at
+    word-at-requires
+    cast-out
+    mul-out
+    array-set-from-out
+    add-k
+    loop-less
+    loop-again
+    returns)

@@ -1,0 +1,135 @@
+-- The fields of a record (document 01, "The record"). r is its bytes; past its end they read as 0.
+use mathlib.Core.Bool.{Bool, cond}
+use mathlib.Core.List.{List}
+use Prim.Native.Nat.{ℕ, _+_, _*_, _/_, _%_}
+use lib.Dec.{ltb, eqb}
+use lib.IntN.{ℤ, pos, _+ℤ_, _-ℤ_}
+use lib.ListN.{getD}
+use Rattle.integers.specs.Base.{tabulate}
+use Rattle.tables.specs.Constants.{lpcOrder, subframeSize, acbTaps, pitchMin, stepCodeZero}
+use Rattle.pulses.specs.Pulses.{vector}
+use Rattle.pulses.specs.declared.Count.{Count}
+use Rattle.pulses.specs.declared.Count.the-variants.{Five, Six}
+use Rattle.pulses.specs.declared.Description.{Description}
+use Rattle.excitation.specs.declared.Subframe.{Subframe}
+use Rattle.excitation.specs.declared.Subframe.the-variants.{Zero, One, Two, Three}
+use Rattle.pitch.specs.declared.Rate.{Rate}
+use Rattle.pitch.specs.declared.Rate.the-variants.{High, Low}
+use Rattle.record.specs.declared.Block.{Block}
+
+-- ---- bytes and values
+
+abbrev pub byte : List ℕ → ℕ → ℕ
+byte r i = getD r i 0
+
+-- sixteen bits as two's complement
+abbrev pub twosComplement : ℕ → ℤ
+twosComplement n = cond (ltb n 32768) (pos n) (pos n -ℤ pos 65536)
+
+-- the 16-bit value at byte i, big-endian
+abbrev pub word : List ℕ → ℕ → ℤ
+word r i = twosComplement (byte r i * 256 + byte r (i + 1))
+
+-- n such values from byte i on
+abbrev pub words : List ℕ → ℕ → ℕ → List ℤ
+words r i n = tabulate (λ k. word r (i + 2 * k)) n
+
+-- ---- candidates and lags
+
+-- bytes 1 to 20: ten candidate LSPs
+abbrev pub candidates : List ℕ → List ℤ
+candidates r = words r 1 lpcOrder
+
+-- the byte of a subframe's base lag code: code A serves subframes 0 and 1, code B 2 and 3
+abbrev pub lagPlace : Subframe → ℕ
+lagPlace Zero = 21
+lagPlace One = 21
+lagPlace Two = 23
+lagPlace Three = 23
+
+abbrev pub baseLag : List ℕ → Subframe → ℕ
+baseLag r s = byte r (lagPlace s) + pitchMin
+
+-- what a step code adds: codes 0, 1, 2, 3 add -1, 0, 1, 2
+abbrev pub step : ℕ → ℤ
+step code = pos code -ℤ pos stepCodeZero
+
+-- a subframe's own lag: the base lag, and in odd subframes a step
+abbrev pub lag : List ℕ → Subframe → ℤ
+lag r Zero = pos (baseLag r Zero)
+lag r One = pos (baseLag r One) +ℤ step (byte r 22)
+lag r Two = pos (baseLag r Two)
+lag r Three = pos (baseLag r Three) +ℤ step (byte r 24)
+
+-- ---- blocks
+
+abbrev pub blockSize : Rate → ℕ
+blockSize High = 16
+blockSize Low = 131
+
+abbrev pub number : Subframe → ℕ
+number Zero = 0
+number One = 1
+number Two = 2
+number Three = 3
+
+-- the first byte of a subframe's block
+abbrev pub blockPlace : Rate → Subframe → ℕ
+blockPlace rate s = 25 + number s * blockSize rate
+
+-- both kinds: five taps and a gain index
+abbrev pub taps : Rate → List ℕ → Subframe → List ℤ
+taps rate r s = words r (blockPlace rate s) acbTaps
+
+abbrev pub gainIndex : Rate → List ℕ → Subframe → ℕ
+gainIndex rate r s = byte r (blockPlace rate s + 10)
+
+-- High: a flags byte with the grid as bit 0 and the train as bit 1, a sign byte and a 24-bit position code
+abbrev pub flags : List ℕ → Subframe → ℕ
+flags r s = byte r (blockPlace High s + 11)
+
+abbrev pub grid : List ℕ → Subframe → Bool
+grid r s = eqb (flags r s % 2) 1
+
+abbrev pub train : List ℕ → Subframe → Bool
+train r s = eqb (flags r s / 2 % 2) 1
+
+abbrev pub signs : List ℕ → Subframe → ℕ
+signs r s = byte r (blockPlace High s + 12)
+
+abbrev pub positionCode : List ℕ → Subframe → ℕ
+positionCode r s =
+    byte r (blockPlace High s + 13) * 65536 + byte r (blockPlace High s + 14) * 256 + byte r (blockPlace High s + 15)
+
+-- six pulses in even subframes, five in odd ones
+abbrev pub count : Subframe → Count
+count Zero = Six
+count One = Five
+count Two = Six
+count Three = Five
+
+abbrev pub description : List ℕ → Subframe → Description
+description r s = record {
+  count = count s;
+  train = train r s;
+  lag = baseLag r s;
+  grid = grid r s;
+  code = positionCode r s;
+  signs = signs r s;
+  gain = gainIndex High r s;
+}
+
+-- the fixed vector: that of the pulse description, or sixty values
+abbrev pub fixed : Rate → List ℕ → Subframe → List ℤ
+fixed High r s = vector (description r s)
+fixed Low r s = words r (blockPlace Low s + 11) subframeSize
+
+-- what the decoder reads of a subframe
+unfoldable pub blockOf : Rate → List ℕ → Subframe → Block
+blockOf rate r s = record {
+  «base_lag» = pos (baseLag r s);
+  lag = lag r s;
+  taps = taps rate r s;
+  gain = gainIndex rate r s;
+  fixed = fixed rate r s;
+}
