@@ -1,0 +1,112 @@
+use mathlib.Core.Path.{_≡_, refl, sym, ap, _∙_}
+use mathlib.Core.Bool.{cond, not}
+use mathlib.Core.List.{List}
+use Prim.Native.Nat.{ℕ}
+use borrow.Author.Tests.{lt-ltb, le-ltb, eq-eqb, ne-eqb}
+use lib.Dec.{ltb, eqb}
+use lib.ListN.{length}
+use Rattle.pitch.specs.declared.Rate.the-variants.{High}
+use Rattle.record.specs.Record.{byte}
+use Rattle.refusals.specs.declared.Refusal.the-variants.{Length}
+use Rattle.refusals.specs.declared.Found.{Found}
+use Rattle.refusals.specs.declared.Found.the-variants.{Refused}
+use Rattle.refusals.specs.Refusals.{wrongLength, bytesOf, foundReceived, foundOf, found}
+use Rattle.integers.specs.Truth.{cond-here, cond-there}
+use Rattle.refusals.proofs.Arms.{from-two}
+use Rattle.refusals.proofs.examine.Statement.{statement}
+use Rattle.refusals.proofs.examine.Tie as tie
+
+returns : tie.Need-returns
+unfolding found
+returns c = cond-here _ _ refl (eq-eqb (length (c .before .before .args .«record» .now)) 0 (c .if1 .taken))
+
+byte-at-requires : tie.Need-byte-at-requires
+byte-at-requires c κs = tt
+
+abbrev r : tie.After-byte-at → List ℕ
+r c = c .before .before .before .args .«record» .now
+
+returns-2 : tie.Need-returns-2
+unfolding found
+returns-2 c =
+    let k = c .before in
+    cond-there _ refl (ne-eqb (length (r k)) 0 (k .before .if1 .left))
+    (cond-here _ _ (ap (ltb 2) (k .byte-at .ensures)) (lt-ltb 2 (k .byte-at .result) (c .if2 .taken)))
+
+record-bytes-requires : tie.Need-record-bytes-requires
+record-bytes-requires c κs = tt
+
+-- numbers 3 and 4 do not apply
+past-kind : (c : tie.Else2) {y : Found} → let s = r (c .before) in
+    y ≡ cond (wrongLength s) (Refused Length) (foundOf (byte s 0) s) → y ≡ found s
+unfolding found
+past-kind c h =
+    let k = c .before in
+    cond-there _ refl (ne-eqb (length (r k)) 0 (k .before .if1 .left))
+    (cond-there _ (ap (ltb 2) (k .byte-at .ensures)) (le-ltb 2 (k .byte-at .result) (c .if2 .left)) h)
+
+length-test : (c : tie.After-record-bytes) → let s = r (c .before .before) in
+    not (eqb (length s) (c .record-bytes .result)) ≡ wrongLength s
+length-test c =
+    let k = c .before .before in
+    ap (λ (n : ℕ). not (eqb (length (r k)) n)) (c .record-bytes .ensures ∙ ap bytesOf (k .byte-at .ensures))
+
+returns-3 : tie.Need-returns-3
+returns-3 c =
+    let b = c .before in
+    let h = ne-eqb (length (r (b .before .before))) (b .record-bytes .result) (c .if3 .taken) in
+    past-kind (b .before) (cond-here _ _ (length-test b) (ap not h))
+
+-- nor does number 5
+of-kind : (c : tie.Else3) {n : ℕ} → let k = c .before .before .before in
+    k .byte-at .result ≡ n → foundOf n (r k) ≡ found (r k)
+of-kind c e =
+    let b = c .before in
+    let k = b .before .before in
+    let h = eq-eqb (length (r k)) (b .record-bytes .result) (c .if3 .left) in
+    ap (λ (m : ℕ). foundOf m (r k)) (sym e ∙ k .byte-at .ensures)
+    ∙ past-kind (b .before) (cond-there _ (length-test b) (ap not h) refl)
+
+high-found-requires : tie.Need-high-found-requires
+high-found-requires c κs = tt
+
+received-found-requires : tie.Need-received-found-requires
+received-found-requires c κs = tt
+
+received-found-requires-2 : tie.Need-received-found-requires-2
+received-found-requires-2 c κs = tt
+
+returns-4 : tie.Need-returns-4
+unfolding foundOf
+returns-4 c = of-kind (c .before) (c .match .keys1)
+
+returns-5 : tie.Need-returns-5
+unfolding foundOf
+returns-5 c =
+    let m = c .before .before in
+    let k = m .before .before .before .before in
+    c .received-found .ensures ∙ ap (foundReceived High (r k)) (c .before .high-found .ensures)
+    ∙ of-kind (m .before) (m .match .keys2)
+
+returns-6 : tie.Need-returns-6
+unfolding foundOf
+returns-6 c =
+    let m = c .before in
+    let k = m .before .before .before .before .byte-at .result in
+    c .received-found2 .ensures ∙ of-kind (m .before) (from-two k (m .match .rest .0 .1) (m .match .rest .1) .1)
+
+pub examine-spec : {M : Type 1} → statement M
+examine-spec =
+    tie.close
+    (tie.spec
+    returns
+    byte-at-requires
+    returns-2
+    record-bytes-requires
+    returns-3
+    high-found-requires
+    received-found-requires
+    received-found-requires-2
+    returns-4
+    returns-5
+    returns-6)

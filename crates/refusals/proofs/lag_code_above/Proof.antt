@@ -1,0 +1,25 @@
+use mathlib.Core.Path.{ap}
+use borrow.Author.Tests.{lt-ltb, le-ltb}
+use lib.Dec.{ltb}
+use Rattle.integers.specs.Truth.{or-here, or-there}
+use Rattle.refusals.proofs.lag_code_above.Statement.{statement}
+use Rattle.refusals.proofs.lag_code_above.Tie as tie
+
+byte-at-requires : tie.Need-byte-at-requires
+byte-at-requires c κs = tt
+
+byte-at-requires-2 : tie.Need-byte-at-requires-2
+byte-at-requires-2 c κs = tt
+
+returns : tie.Need-returns
+returns c =
+    let b = c .before .byte-at in
+    or-here _ (ap (ltb 127) (b .ensures)) (lt-ltb 127 (b .result) (c .if1 .taken))
+
+returns-2 : tie.Need-returns-2
+returns-2 c =
+    let b = c .before .before .byte-at in
+    or-there (ap (ltb 127) (b .ensures)) (le-ltb 127 (b .result) (c .before .if1 .left)) (ap (ltb 127) (c .byte-at2 .ensures))
+
+pub lag-code-above-spec : {M : Type 1} → statement M
+lag-code-above-spec = tie.close (tie.spec byte-at-requires byte-at-requires-2 returns returns-2)

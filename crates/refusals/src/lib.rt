@@ -1,0 +1,191 @@
+// What a record is found to be: erased, High, Low, or refused with one of the numbers 3 to 10.
+ghost use mathlib.Core.Path.{_≡_};
+ghost use lib.Dec.{ltb};
+ghost use Rattle.tables.specs.Constants.{gainIndexMax};
+ghost use Rattle.record.specs.Record.{gainIndex};
+ghost use Rattle.refusals.specs.Refusals.{number, numberOf, bytesOf, wrongLagCode, wrongStepCode, wrongGainIndex, wrongFlagsIn, wrongFlags, wrongSignsIn, wrongSigns, foundHigh, foundReceived, found};
+use excitation::Subframe;
+use pitch::Rate;
+
+// The ten refusals, in the order of their numbers. The first two are not of a record.
+pub enum Refusal {
+    SampleLength,
+    StateBounds,
+    NoByte,
+    Kind,
+    Length,
+    LagCode,
+    StepCode,
+    GainIndex,
+    Flags,
+    Signs,
+}
+
+// What the decoder says of a record.
+pub enum Verdict {
+    Accepted,
+    Refused(Refusal),
+}
+
+pub enum Found {
+    Erased,
+    High,
+    Low,
+    Refused(Refusal),
+}
+
+fn refusal_number(n: Refusal) -> u8
+    ensures { λ r. ⌜ r ≡ number n ⌝ }
+{
+    match n {
+        Refusal::SampleLength => 1,
+        Refusal::StateBounds => 2,
+        Refusal::NoByte => 3,
+        Refusal::Kind => 4,
+        Refusal::Length => 5,
+        Refusal::LagCode => 6,
+        Refusal::StepCode => 7,
+        Refusal::GainIndex => 8,
+        Refusal::Flags => 9,
+        Refusal::Signs => 10,
+    }
+}
+
+// The number on the display; 0 where there is none.
+pub fn verdict_number(v: Verdict) -> u8
+    ensures { λ r. ⌜ r ≡ numberOf v ⌝ }
+{
+    match v {
+        Verdict::Accepted => 0,
+        Verdict::Refused(n) => refusal_number(n),
+    }
+}
+
+// The length of a record of a kind.
+fn record_bytes(kind: u8) -> usize
+    ensures { λ r. ⌜ r ≡ bytesOf kind ⌝ }
+{
+    match kind {
+        0 => 1,
+        1 => tables::RECORD_HIGH_BYTES,
+        _ => tables::RECORD_LOW_BYTES,
+    }
+}
+
+fn lag_code_above(record: &[u8]) -> bool
+    ensures { λ r. ⌜ r ≡ wrongLagCode (now («record» .entry)) ⌝ }
+{
+    record::byte_at(record, 21) > tables::LAG_CODE_MAX
+        || record::byte_at(record, 23) > tables::LAG_CODE_MAX
+}
+
+fn step_code_above(record: &[u8]) -> bool
+    ensures { λ r. ⌜ r ≡ wrongStepCode (now («record» .entry)) ⌝ }
+{
+    record::byte_at(record, 22) > tables::STEP_CODE_MAX
+        || record::byte_at(record, 24) > tables::STEP_CODE_MAX
+}
+
+fn gain_above(record: &[u8], rate: Rate, s: Subframe) -> bool
+    ensures { λ r. ⌜ r ≡ ltb gainIndexMax (gainIndex rate (now («record» .entry)) s) ⌝ }
+{
+    record::byte_at(record, record::block_place(rate, s) + 10) > tables::GAIN_INDEX_MAX
+}
+
+fn any_gain_above(record: &[u8], rate: Rate) -> bool
+    ensures { λ r. ⌜ r ≡ wrongGainIndex rate (now («record» .entry)) ⌝ }
+{
+    gain_above(record, rate, Subframe::Zero)
+        || (gain_above(record, rate, Subframe::One)
+            || (gain_above(record, rate, Subframe::Two)
+                || gain_above(record, rate, Subframe::Three)))
+}
+
+fn flags_wrong(record: &[u8], s: Subframe) -> bool
+    ensures { λ r. ⌜ r ≡ wrongFlagsIn (now («record» .entry)) s ⌝ }
+{
+    let flags = record::byte_at(record, record::block_place(Rate::High, s) + 11);
+    if flags > tables::FLAGS_MAX {
+        return true;
+    }
+    let lag = record::byte_at(record, record::lag_place(s)) as i32 + tables::PITCH_MIN;
+    flags / 2 % 2 == 1 && lag >= tables::TRAIN_LAG_LIMIT
+}
+
+fn any_flags_wrong(record: &[u8]) -> bool
+    ensures { λ r. ⌜ r ≡ wrongFlags (now («record» .entry)) ⌝ }
+{
+    flags_wrong(record, Subframe::Zero)
+        || (flags_wrong(record, Subframe::One)
+            || (flags_wrong(record, Subframe::Two) || flags_wrong(record, Subframe::Three)))
+}
+
+fn signs_wrong(record: &[u8], s: Subframe) -> bool
+    ensures { λ r. ⌜ r ≡ wrongSignsIn (now («record» .entry)) s ⌝ }
+{
+    let signs = record::byte_at(record, record::block_place(Rate::High, s) + 12);
+    match s {
+        Subframe::Zero => signs >= 64,
+        Subframe::One => signs >= 32,
+        Subframe::Two => signs >= 64,
+        Subframe::Three => signs >= 32,
+    }
+}
+
+fn any_signs_wrong(record: &[u8]) -> bool
+    ensures { λ r. ⌜ r ≡ wrongSigns (now («record» .entry)) ⌝ }
+{
+    signs_wrong(record, Subframe::Zero)
+        || (signs_wrong(record, Subframe::One)
+            || (signs_wrong(record, Subframe::Two) || signs_wrong(record, Subframe::Three)))
+}
+
+// Numbers 9 and 10.
+fn high_found(record: &[u8]) -> Found
+    ensures { λ r. ⌜ r ≡ foundHigh (now («record» .entry)) ⌝ }
+{
+    if any_flags_wrong(record) {
+        return Found::Refused(Refusal::Flags);
+    }
+    if any_signs_wrong(record) {
+        return Found::Refused(Refusal::Signs);
+    }
+    Found::High
+}
+
+// Numbers 6 to 8, and else the rest.
+fn received_found(record: &[u8], rate: Rate, rest: Found) -> Found
+    ensures { λ r. ⌜ r ≡ foundReceived rate (now («record» .entry)) rest ⌝ }
+{
+    if lag_code_above(record) {
+        return Found::Refused(Refusal::LagCode);
+    }
+    if step_code_above(record) {
+        return Found::Refused(Refusal::StepCode);
+    }
+    if any_gain_above(record, rate) {
+        return Found::Refused(Refusal::GainIndex);
+    }
+    rest
+}
+
+// The first number that applies, or the record's kind.
+pub fn examine(record: &[u8]) -> Found
+    ensures { λ r. ⌜ r ≡ found (now («record» .entry)) ⌝ }
+{
+    if record.len() == 0 {
+        return Found::Refused(Refusal::NoByte);
+    }
+    let kind = record::byte_at(record, 0);
+    if kind > 2 {
+        return Found::Refused(Refusal::Kind);
+    }
+    if record.len() != record_bytes(kind) {
+        return Found::Refused(Refusal::Length);
+    }
+    match kind {
+        0 => Found::Erased,
+        1 => received_found(record, Rate::High, high_found(record)),
+        _ => received_found(record, Rate::Low, Found::Low),
+    }
+}
