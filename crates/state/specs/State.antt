@@ -1,0 +1,81 @@
+-- The state of the decoder (document 01, number 2 and "Frame"; the Rust's QSynthesis and QSynthesis::new). It is the code's struct, with the Rust's fields and widths; the Rust's clamp_syn_mem is always set.
+use mathlib.Core.Bool.{Bool, true, not, _&&_}
+use mathlib.Core.List.{List}
+use Prim.Native.Nat.{ℕ, zero, suc, _+_}
+use lib.IntN.{ℤ, pos, negsuc}
+use lib.ListN.{replicate}
+use lib.Signed.{ltZ}
+use Rattle.integers.specs.Base.{entry, tabulate}
+use Rattle.tables.specs.Constants.{lpcOrder, frameSize, excHist, classifierHistory, pitchMin, freshLag, agcOne, agcMax, lastLagMin, lastLagMax, lastBaseLagMax, unvoicedGainMax}
+use Rattle.tables.specs.Tables.{meanLsps}
+use Rattle.basicop.specs.Operators.{word16}
+use Rattle.postfilter.specs.declared.Postfilter.{Postfilter}
+use Rattle.state.specs.declared.State.{State}
+
+-- ---- a fresh state (QSynthesis::new)
+
+abbrev pub freshPostfilter : Postfilter
+freshPostfilter = record {
+  «num_mem» = replicate lpcOrder (pos 0);
+  «den_mem» = replicate lpcOrder (pos 0);
+  «tilt_prev» = pos 0;
+  «tilt_k1» = pos 0;
+  «agc_gain_q12» = pos agcOne;
+}
+
+-- with the postfilter on or off
+unfoldable pub freshState : Bool → State
+freshState on = record {
+  «prev_lsp» = meanLsps;
+  «exc_hist» = replicate excHist (pos 0);
+  «syn_mem» = replicate lpcOrder (pos 0);
+  pf = freshPostfilter;
+  «last_lag» = pos freshLag;
+  «last_lag2» = pos freshLag;
+  «last_taps_sum_q15» = pos 0;
+  «last_gain_unvoiced» = pos 0;
+  «pcm_hist» = replicate classifierHistory (pos 0);
+  «erased_run» = 0;
+  postfilter = on;
+}
+
+-- ---- its bounds (number 2)
+
+-- z is in lo ..= hi
+abbrev pub between : ℤ → ℤ → ℤ → Bool
+between lo hi z = not (ltZ z lo) && not (ltZ hi z)
+
+-- the tests t 0, t 1, …, t (n - 1) hold
+unfoldable pub allTo : (ℕ → Bool) → ℕ → Bool
+allTo t zero = true
+allTo t (suc n) = allTo t n && t n
+
+-- the first n values are words of 16 bits
+abbrev pub areWords : List ℤ → ℕ → Bool
+areWords xs n = allTo (λ i. between (negsuc 32767) (pos 32767) (entry xs i)) n
+
+-- the fields that are numbers
+abbrev pub numbersInBounds : State → Bool
+numbersInBounds s =
+    between (pos 0) (pos agcMax) (s .pf .«agc_gain_q12»)
+    && (between (pos lastLagMin) (pos lastLagMax) (s .«last_lag»)
+    && (between (pos pitchMin) (pos lastBaseLagMax) (s .«last_lag2»)
+    && (between (pos 0) (pos 32767) (s .«last_taps_sum_q15»)
+    && between (pos 0) (pos unvoicedGainMax) (s .«last_gain_unvoiced»))))
+
+unfoldable pub inBounds : State → Bool
+inBounds s = areWords (s .«exc_hist») excHist && (areWords (s .«syn_mem») lpcOrder && numbersInBounds s)
+
+-- ---- what the frame works on
+
+-- the signal of a frame before its excitation: the history, then 240 zeros
+abbrev pub frameSignal : List ℤ → List ℤ
+frameSignal history = tabulate (entry history) (excHist + frameSize)
+
+-- the history after it: the last 146 samples
+abbrev pub historyAfter : List ℤ → List ℤ
+historyAfter x = tabulate (λ i. entry x (frameSize + i)) excHist
+
+-- n values brought to 16 bits, which changes none of a state in bounds
+abbrev pub narrowed : List ℤ → ℕ → List ℤ
+narrowed xs n = tabulate (λ i. word16 (entry xs i)) n
