@@ -1,0 +1,4 @@
+pub mod Fields
+pub mod Subframes
+pub mod Frames
+pub mod Answers

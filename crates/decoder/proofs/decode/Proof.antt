@@ -1,0 +1,177 @@
+use mathlib.Core.Path.{_≡_, sym, ap, _∙_}
+use mathlib.Core.Bool.{true}
+use borrow.Author.Needs.{needs}
+use lib.ListN.{length}
+use Rattle.refusals.specs.declared.Refusal.the-variants.{SampleLength, StateBounds}
+use Rattle.refusals.specs.declared.Found.{Found}
+use Rattle.state.specs.State.{inBounds}
+use Rattle.integers.specs.Truth.{not-true, not-false}
+use Rattle.decoder.specs.Decoder.{examined, acceptance}
+use Rattle.decoder.proofs.Answers.{length-refused, bounds-refused, record-found}
+use Rattle.decoder.proofs.Answers.{refused-gives, erased-gives, high-gives, low-gives}
+use Rattle.decoder.proofs.decode.Statement.{statement}
+use Rattle.decoder.proofs.decode.Tie as tie
+
+-- ---- where a record is examined, the samples and the state passed
+
+module _ (c : tie.After-examine) where
+  abbrev start : tie.Start
+  start = c .before .before .before .before .before
+
+  whole : length (start .args .samples .now) ≡ 240
+  whole = c .before .before .before .if1 .left
+
+  sound : inBounds (start .args .given) ≡ true
+  sound = let t = c .before .before .in-bounds in sym (t .ensures) ∙ not-false {b = t .result} (c .before .if2 .left)
+
+  -- what it is found to be
+  found-is : {k : Found} → c .examine .result ≡ k → let a = start .args in
+      examined (a .given) (a .«record» .now) (a .samples .now) ≡ k
+  found-is e =
+      let a = start .args in
+      record-found (a .given) (a .«record» .now) (a .samples .now) whole sound (sym (c .examine .ensures) ∙ e)
+
+refused-requires : tie.Need-refused-requires
+refused-requires c κs = tt
+
+returns : tie.Need-returns
+returns c =
+    let t = c .before in
+    let a = t .before .before .args in
+    let r = a .«record» .now in
+    let x = a .samples .now in
+    let g = refused-gives (a .given) r x SampleLength (length-refused (a .given) r x (t .if1 .taken)) in
+    (c .refused .ensures ∙ g .0, g .1)
+
+in-bounds-requires : tie.Need-in-bounds-requires
+in-bounds-requires c κs = tt
+
+refused-requires-2 : tie.Need-refused-requires-2
+refused-requires-2 c κs = tt
+
+returns-2 : tie.Need-returns-2
+returns-2 c =
+    let t = c .before in
+    let b = t .before .in-bounds in
+    let l = t .before .before in
+    let a = l .before .before .args in
+    let r = a .«record» .now in
+    let x = a .samples .now in
+    let unsound = sym (b .ensures) ∙ not-true {b = b .result} (t .if2 .taken) in
+    let g = refused-gives (a .given) r x StateBounds (bounds-refused (a .given) r x (l .if1 .left) unsound) in
+    (c .refused2 .ensures ∙ g .0, g .1)
+
+examine-requires : tie.Need-examine-requires
+examine-requires c κs = tt
+
+enum-known-n : tie.Need-enum-known-n
+enum-known-n c = search needs
+
+refused-requires-3 : tie.Need-refused-requires-3
+refused-requires-3 c κs = tt
+
+enum-told : tie.Need-enum-told
+enum-told c = search needs
+
+decode-erased-requires : tie.Need-decode-erased-requires
+decode-erased-requires c κs = let e = c .before .before .before in (whole e, sound e)
+
+accepted-requires : tie.Need-accepted-requires
+accepted-requires c κs = tt
+
+enum-told-2 : tie.Need-enum-told-2
+enum-told-2 c = search needs
+
+decode-received-requires : tie.Need-decode-received-requires
+decode-received-requires c κs = let e = c .before .before .before in (whole e, sound e)
+
+accepted-requires-2 : tie.Need-accepted-requires-2
+accepted-requires-2 c κs = tt
+
+enum-told-3 : tie.Need-enum-told-3
+enum-told-3 c = search needs
+
+decode-received-requires-2 : tie.Need-decode-received-requires-2
+decode-received-requires-2 c κs = let e = c .before .before .before in (whole e, sound e)
+
+accepted-requires-3 : tie.Need-accepted-requires-3
+accepted-requires-3 c κs = tt
+
+returns-3 : tie.Need-returns-3
+returns-3 c =
+    let n = c .before .before in
+    let e = n .before .before in
+    let a = start e .args in
+    let g = refused-gives (a .given) (a .«record» .now) (a .samples .now) (n .n .given .0 .0) (found-is e (n .n .given .1)) in
+    (c .refused3 .ensures ∙ g .0, g .1)
+
+same-length : tie.Need-same-length
+same-length c = c .before .before .decode-erased .kept .0
+
+returns-4 : tie.Need-returns-4
+returns-4 c =
+    let d = c .before .before in
+    let t = d .before .before in
+    let e = t .before .before in
+    let a = start e .args in
+    let g = erased-gives (a .given) (a .«record» .now) (a .samples .now) (found-is e (t .enum-told .given .1)) in (
+      c .accepted .ensures ∙ ap acceptance (d .decode-erased .ensures .0) ∙ g .0,
+      d .decode-erased .ensures .1 ∙ g .1,
+    )
+
+same-length-2 : tie.Need-same-length-2
+same-length-2 c = c .before .before .decode-received .kept .0
+
+returns-5 : tie.Need-returns-5
+returns-5 c =
+    let d = c .before .before in
+    let t = d .before .before in
+    let e = t .before .before in
+    let a = start e .args in
+    let g = high-gives (a .given) (a .«record» .now) (a .samples .now) (found-is e (t .enum-told2 .given .1)) in (
+      c .accepted2 .ensures ∙ ap acceptance (d .decode-received .ensures .0) ∙ g .0,
+      d .decode-received .ensures .1 ∙ g .1,
+    )
+
+same-length-3 : tie.Need-same-length-3
+same-length-3 c = c .before .before .decode-received2 .kept .0
+
+returns-6 : tie.Need-returns-6
+returns-6 c =
+    let d = c .before .before in
+    let t = d .before .before in
+    let e = t .before .before in
+    let a = start e .args in
+    let g = low-gives (a .given) (a .«record» .now) (a .samples .now) (found-is e (t .enum-told3 .given .1)) in (
+      c .accepted3 .ensures ∙ ap acceptance (d .decode-received2 .ensures .0) ∙ g .0,
+      d .decode-received2 .ensures .1 ∙ g .1,
+    )
+
+pub decode-spec : {M : Type 1} → statement M
+decode-spec =
+    tie.close
+    (tie.spec
+    refused-requires
+    returns
+    in-bounds-requires
+    refused-requires-2
+    returns-2
+    examine-requires
+    enum-known-n
+    refused-requires-3
+    enum-told
+    decode-erased-requires
+    accepted-requires
+    enum-told-2
+    decode-received-requires
+    accepted-requires-2
+    enum-told-3
+    decode-received-requires-2
+    accepted-requires-3
+    returns-3
+    same-length
+    returns-4
+    same-length-2
+    returns-5
+    same-length-3
+    returns-6)

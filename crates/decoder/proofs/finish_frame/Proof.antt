@@ -1,0 +1,128 @@
+use mathlib.Core.Path.{_≡_, ap, _∙_}
+use mathlib.Core.List.{List}
+use native.Mathlib.Omega.{arith}
+use lib.ListN.{length, drop, length-take, length-drop}
+use lib.Seq.{take-all}
+use lib.IntN.{ℤ}
+use mir.Syntax.{w32}
+use Rattle.integers.specs.Signed.{read-back}
+use Rattle.lpc.specs.Lpc.{frameCoefficients}
+use Rattle.state.proofs.Bounds.{memory-narrowed}
+use Rattle.decoder.specs.Frame.{filtersAt, heardTo, frameSamples, filtersLast, frameState}
+use Rattle.decoder.proofs.Fields.{field-length}
+use Rattle.decoder.proofs.finish_frame.Statement.{statement}
+use Rattle.decoder.proofs.finish_frame.Tie as tie
+
+frame-lpc-q13-requires : tie.Need-frame-lpc-q13-requires
+frame-lpc-q13-requires c κs = tt
+
+narrow-memory-requires : tie.Need-narrow-memory-requires
+narrow-memory-requires c κs = tt
+
+output-frame-requires : tie.Need-output-frame-requires
+output-frame-requires c κs = c .before .before .before .before .before .before .pre .0
+
+-- ---- what is heard, and the memories after it
+
+module _ (c : tie.After-output-frame) where
+  abbrev memory : tie.After-narrow-memory
+  memory = c .before .before .before
+
+  abbrev start : tie.Start
+  start = memory .before .before .before .before
+
+  abbrev heard : List ℤ
+  heard = c .output-frame .last .0
+
+  heard-length : length heard ≡ 240
+  heard-length = c .output-frame .kept .0 ∙ start .pre .0
+
+  memory-is : memory .narrow-memory .result ≡ start .args .given .«syn_mem»
+  memory-is =
+      let given = start .args .given in
+      let size = field-length (given .«syn_mem») (start .good .1 .0 .1 .1 .1 .1 .0 .1 .0 .1) in
+      memory .narrow-memory .ensures ∙ memory-narrowed given size (start .pre .1)
+
+  sets-is : let a = start .args in
+      memory .before .before .frame-lpc-q13 .result ≡ frameCoefficients (a .given .«prev_lsp») (a .lsps)
+  sets-is = memory .before .before .frame-lpc-q13 .ensures
+
+  heard-is : let a = start .args in heard ≡ frameSamples (a .given) (a .lsps) (a .t4) (a .inputs) (a .last)
+  heard-is =
+      let a = start .args in
+      let g = a .given in
+      c .output-frame .ensures .1
+      ∙ (λ i. heardTo (g .postfilter) (sets-is i) (a .inputs) record { «syn_mem» = memory-is i; pf = g .pf } 4)
+
+  filters-is : let a = start .args in c .output-frame .result ≡ filtersLast (a .given) (a .lsps) (a .t4) (a .inputs) (a .last)
+  filters-is =
+      let a = start .args in
+      let g = a .given in
+      c .output-frame .ensures .0
+      ∙ (λ i. filtersAt (g .postfilter) (sets-is i) (a .inputs) record { «syn_mem» = memory-is i; pf = g .pf } 4)
+
+sub-pcm-history : tie.Need-sub-pcm-history
+sub-pcm-history c = omega arith
+
+part-pcm-history-start : tie.Need-part-pcm-history-start
+part-pcm-history-start c = omega arith
+
+part-pcm-history-end : tie.Need-part-pcm-history-end
+part-pcm-history-end c = omega (arith, heard-length (c .before .before))
+
+pcm-history-requires : tie.Need-pcm-history-requires
+pcm-history-requires c κs =
+    let e = heard-length (c .before .before .before) in simp (length-take, length-drop) (omega (arith, e))
+
+history-after-requires : tie.Need-history-after-requires
+history-after-requires c κs = tt
+
+widen-memory-requires : tie.Need-widen-memory-requires
+widen-memory-requires c κs = tt
+
+same-length : tie.Need-same-length
+same-length c = c .before .before .before .before .before .before .before .before .before .before .output-frame .kept .0
+
+returns : tie.Need-returns
+unfolding frameState
+returns c =
+    let w = c .before .before in
+    let h = w .before .before in
+    let t = h .before .before in
+    let o = t .before .before .before .before in
+    let a = start o .args in
+    let f = filters-is o in
+    let told = c .struct-told .given in
+    let size = heard-length o in
+    let tail = take-all 120 (drop 120 (heard o)) (omega (arith, length-drop 120 (heard o), size)) in (
+      (λ i. record {
+        «prev_lsp» = a .lsps;
+        «exc_hist» = h .history-after .ensures i;
+        «syn_mem» = (w .widen-memory .ensures ∙ (λ j. f j .«syn_mem»)) i;
+        pf = f i .pf;
+        «last_lag» = read-back w32 (a .last .«last_lag») (told .0 .1) i;
+        «last_lag2» = read-back w32 (a .last .«last_lag2») (told .1 .0 .1) i;
+        «last_taps_sum_q15» = read-back w32 (a .last .«last_taps_sum_q15») (told .1 .1 .0 .1) i;
+        «last_gain_unvoiced» = read-back w32 (a .last .«last_gain_unvoiced») (told .1 .1 .1 .0 .1) i;
+        «pcm_hist» = (t .pcm-history .ensures ∙ tail ∙ ap (drop 120) (heard-is o)) i;
+        «erased_run» = a .last .«erased_run»;
+        postfilter = a .given .postfilter;
+      }),
+      heard-is o,
+    )
+
+pub finish-frame-spec : {M : Type 1} → statement M
+finish-frame-spec =
+    tie.close
+    (tie.spec
+    frame-lpc-q13-requires
+    narrow-memory-requires
+    output-frame-requires
+    sub-pcm-history
+    part-pcm-history-start
+    part-pcm-history-end
+    pcm-history-requires
+    history-after-requires
+    widen-memory-requires
+    same-length
+    returns)

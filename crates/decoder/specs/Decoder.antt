@@ -1,0 +1,55 @@
+-- The decoder (document 01, "The ten numbers" and "Frame"): what it answers to a record, and what the samples that it was lent then hold, from any state, any bytes and any samples.
+use mathlib.Core.Bool.{cond, not}
+use mathlib.Core.List.{List}
+use Prim.Native.Nat.{ℕ}
+use lib.Dec.{eqb}
+use lib.IntN.{ℤ}
+use lib.ListN.{length}
+use Rattle.tables.specs.Constants.{frameSize}
+use Rattle.pitch.specs.declared.Rate.the-variants as rates
+use Rattle.refusals.specs.Refusals.{found}
+use Rattle.refusals.specs.declared.Refusal.{Refusal}
+use Rattle.refusals.specs.declared.Refusal.the-variants.{SampleLength, StateBounds}
+use Rattle.refusals.specs.declared.Found.{Found}
+use Rattle.refusals.specs.declared.Found.the-variants.{Erased, High, Low, Refused}
+use Rattle.refusals.specs.declared.Verdict.the-variants as verdicts
+use Rattle.state.specs.State.{inBounds}
+use Rattle.state.specs.declared.State.{State}
+use Rattle.decoder.specs.Frame.{erasedSamples, erasedState, receivedSamples, receivedState}
+use Rattle.decoder.specs.declared.Answer.{Answer}
+
+-- ---- the first number that applies, or what the record is
+
+-- 1: the sample slice is not 240 long; 2: the state is out of bounds; then those of the record
+unfoldable pub examined : State → List ℕ → List ℤ → Found
+examined s r samples =
+    cond (not (eqb (length samples) frameSize)) (Refused SampleLength) (cond (not (inBounds s)) (Refused StateBounds) (found r))
+
+-- ---- what follows from it
+
+-- a refusal hands back the state that was given
+abbrev pub refusal : State → Refusal → Answer
+refusal s n = record { verdict = verdicts.Refused n; state = s }
+
+abbrev pub acceptance : State → Answer
+acceptance next = record { verdict = verdicts.Accepted; state = next }
+
+-- the answer
+unfoldable pub answerTo : Found → State → List ℕ → Answer
+answerTo (Refused n) s r = refusal s n
+answerTo Erased s r = acceptance (erasedState s)
+answerTo High s r = acceptance (receivedState s rates.High r)
+answerTo Low s r = acceptance (receivedState s rates.Low r)
+
+-- the samples: a refusal changes none
+unfoldable pub samplesTo : Found → State → List ℕ → List ℤ → List ℤ
+samplesTo (Refused n) s r samples = samples
+samplesTo Erased s r samples = erasedSamples s
+samplesTo High s r samples = receivedSamples s rates.High r
+samplesTo Low s r samples = receivedSamples s rates.Low r
+
+abbrev pub answerOf : State → List ℕ → List ℤ → Answer
+answerOf s r samples = answerTo (examined s r samples) s r
+
+abbrev pub samplesOf : State → List ℕ → List ℤ → List ℤ
+samplesOf s r samples = samplesTo (examined s r samples) s r samples

@@ -1,0 +1,167 @@
+-- A frame (document 01, "Adaptive part", "Erasure" and "Frame"; the Rust's decode_params from lsp_check_or_previous on, and decode_erased): LSPs, the excitation of four subframes, then for each the synthesis and what is heard.
+use mathlib.Core.Bool.{Bool, cond}
+use mathlib.Core.List.{List, [], _∷_, _++_}
+use Prim.Native.Nat.{ℕ, zero, suc, _-_}
+use lib.IntN.{ℤ, pos}
+use lib.ListN.{getD, drop}
+use Rattle.integers.specs.Base.{up}
+use Rattle.tables.specs.Constants.{subframesPerFrame, frameSize, classifierHistory, lspMinimum, lspMinimumErased}
+use Rattle.lsp.specs.Lsps.{checkOrPrevious, extrapolated}
+use Rattle.lpc.specs.Lpc.{frameCoefficients}
+use Rattle.excitation.specs.Excitation.{place, withSubframe, inTurn, limitedLag, adaptive, limitedSum, tapSum, unvoicedGain}
+use Rattle.excitation.specs.declared.Subframe.{Subframe}
+use Rattle.excitation.specs.declared.Subframe.the-variants.{Zero, One, Two, Three}
+use Rattle.synthesis.specs.Synthesis.{synthesised, memoryAfter}
+use Rattle.pitch.specs.Pitch.{unchanged, postfiltered}
+use Rattle.pitch.specs.declared.Rate.{Rate}
+use Rattle.postfilter.specs.Postfilter.{filtered, postfilterAfter}
+use Rattle.voicing.specs.Voicing.{voicingOf}
+use Rattle.erasure.specs.Erasure.{nextRun, erasedExcitation}
+use Rattle.record.specs.Record.{candidates, blockOf}
+use Rattle.record.specs.declared.Block.{Block}
+use Rattle.state.specs.State.{frameSignal, historyAfter}
+use Rattle.state.specs.declared.State.{State}
+use Rattle.decoder.specs.declared.Filters.{Filters}
+use Rattle.decoder.specs.declared.LastFrame.{LastFrame}
+
+-- ---- what is heard of a subframe
+
+-- The postfilter on or off, the coefficients a, the input x of the synthesis, and the memories f.
+module _ (on : Bool) (a x : List ℤ) (f : Filters) where
+  abbrev pub synthesisOf : List ℤ
+  synthesisOf = synthesised a x (f .«syn_mem»)
+
+  -- its sixty samples: off, the synthesis output is the sample
+  unfoldable pub subframeHeard : List ℤ
+  subframeHeard = cond on (filtered (f .pf) a synthesisOf) synthesisOf
+
+  -- the memories after it: off, that of formant, tilt and gain keeps its values
+  unfoldable pub filtersAfter : Filters
+  filtersAfter = record {
+    «syn_mem» = memoryAfter a x (f .«syn_mem»);
+    pf = cond on (postfilterAfter (f .pf) a synthesisOf) (f .pf);
+  }
+
+-- ---- of a frame: a set of coefficients and an input for each subframe, and the memories before it
+
+module _ (on : Bool) (sets inputs : List (List ℤ)) (f : Filters) where
+  -- the memories before subframe k
+  unfoldable pub filtersAt : ℕ → Filters
+  filtersAt zero = f
+  filtersAt (suc k) = filtersAfter on (getD sets k []) (getD inputs k []) (filtersAt k)
+
+  -- the samples of the first k subframes
+  unfoldable pub heardTo : ℕ → List ℤ
+  heardTo zero = []
+  heardTo (suc k) = heardTo k ++ subframeHeard on (getD sets k []) (getD inputs k []) (filtersAt k)
+
+  -- all 240
+  abbrev pub frameHeard : List ℤ
+  frameHeard = heardTo subframesPerFrame
+
+-- ---- the input of the synthesis
+
+-- f of each subframe
+abbrev pub eachSubframe : (Subframe → List ℤ) → List (List ℤ)
+eachSubframe f = f Zero ∷ f One ∷ f Two ∷ f Three ∷ []
+
+-- the excitation itself, in erased frames and with the postfilter off
+abbrev pub plainInputs : List ℤ → List (List ℤ)
+plainInputs x = eachSubframe (λ s. unchanged x (place s))
+
+-- through the pitch postfilter, around a lag for each
+abbrev pub pitchInputs : Rate → (Subframe → ℤ) → List ℤ → List (List ℤ)
+pitchInputs rate lagOf x = eachSubframe (λ s. postfiltered x rate (place s) (limitedLag (lagOf s)))
+
+-- ---- the end of a frame: its samples, and the next state
+
+-- The frame's LSPs, its signal with the excitation, the inputs of its synthesis, and what is stored for erased frames (record_last_frame).
+module _ (s : State) (lsps signal : List ℤ) (inputs : List (List ℤ)) (last : LastFrame) where
+  abbrev pub filtersOf : Filters
+  filtersOf = record { «syn_mem» = s .«syn_mem»; pf = s .pf }
+
+  abbrev pub frameSamples : List ℤ
+  frameSamples = frameHeard (s .postfilter) (frameCoefficients (s .«prev_lsp») lsps) inputs filtersOf
+
+  abbrev pub filtersLast : Filters
+  filtersLast = filtersAt (s .postfilter) (frameCoefficients (s .«prev_lsp») lsps) inputs filtersOf subframesPerFrame
+
+  unfoldable pub frameState : State
+  frameState = record {
+    «prev_lsp» = lsps;
+    «exc_hist» = historyAfter signal;
+    «syn_mem» = filtersLast .«syn_mem»;
+    pf = filtersLast .pf;
+    «last_lag» = last .«last_lag»;
+    «last_lag2» = last .«last_lag2»;
+    «last_taps_sum_q15» = last .«last_taps_sum_q15»;
+    «last_gain_unvoiced» = last .«last_gain_unvoiced»;
+    «pcm_hist» = drop (frameSize - classifierHistory) frameSamples;
+    «erased_run» = last .«erased_run»;
+    postfilter = s .postfilter;
+  }
+
+-- ---- an erased frame (decode_erased)
+
+module _ (s : State) where
+  abbrev pub erasedLsps : List ℤ
+  erasedLsps = checkOrPrevious (pos lspMinimumErased) (extrapolated (s .«prev_lsp»)) (s .«prev_lsp»)
+
+  -- voicing centres on the lag of subframe 2
+  abbrev pub erasedSignal : List ℤ
+  erasedSignal =
+      erasedExcitation (voicingOf (s .«pcm_hist») (up (s .«last_lag2»)))
+      (s .«last_taps_sum_q15») (s .«last_gain_unvoiced») (nextRun (s .«erased_run»)) (frameSignal (s .«exc_hist»))
+
+  -- all but the run stays
+  abbrev pub erasedLast : LastFrame
+  erasedLast = record {
+    «last_lag» = s .«last_lag»;
+    «last_lag2» = s .«last_lag2»;
+    «last_taps_sum_q15» = s .«last_taps_sum_q15»;
+    «last_gain_unvoiced» = s .«last_gain_unvoiced»;
+    «erased_run» = nextRun (s .«erased_run»);
+  }
+
+  unfoldable pub erasedSamples : List ℤ
+  erasedSamples = frameSamples s erasedLsps erasedSignal (plainInputs erasedSignal) erasedLast
+
+  unfoldable pub erasedState : State
+  erasedState = frameState s erasedLsps erasedSignal (plainInputs erasedSignal) erasedLast
+
+-- ---- a received frame (decode_params), of the record r
+
+-- x with the excitation of a subframe, by its block: the adaptive part and the fixed vector
+abbrev pub receivedTo : Block → List ℤ → Subframe → List ℤ
+receivedTo b x k = withSubframe x (place k) (limitedSum (adaptive x (place k) (limitedLag (b .lag)) (b .taps)) (b .fixed))
+
+module _ (s : State) (rate : Rate) (r : List ℕ) where
+  abbrev pub receivedLsps : List ℤ
+  receivedLsps = checkOrPrevious (pos lspMinimum) (candidates r) (s .«prev_lsp»)
+
+  -- the record's block of a subframe
+  abbrev pub block : Subframe → Block
+  block k = blockOf rate r k
+
+  abbrev pub receivedSignal : List ℤ
+  receivedSignal = inTurn (λ x k. receivedTo (block k) x k) (frameSignal (s .«exc_hist»))
+
+  -- the pitch postfilter goes by base lags
+  abbrev pub receivedInputs : List (List ℤ)
+  receivedInputs = cond (s .postfilter) (pitchInputs rate (λ k. block k .«base_lag») receivedSignal) (plainInputs receivedSignal)
+
+  -- the lags of subframes 3 and 2, the tap sum of subframe 3, and the gains of subframes 2 and 3
+  abbrev pub receivedLast : LastFrame
+  receivedLast = record {
+    «last_lag» = block Three .lag;
+    «last_lag2» = block Two .lag;
+    «last_taps_sum_q15» = tapSum (block Three .taps);
+    «last_gain_unvoiced» = pos (unvoicedGain (block Two .gain) (block Three .gain));
+    «erased_run» = 0;
+  }
+
+  unfoldable pub receivedSamples : List ℤ
+  receivedSamples = frameSamples s receivedLsps receivedSignal receivedInputs receivedLast
+
+  unfoldable pub receivedState : State
+  receivedState = frameState s receivedLsps receivedSignal receivedInputs receivedLast

@@ -1,0 +1,304 @@
+// The decoder: a record and a state to 240 samples and the next state, or a refusal (the Rust's QSynthesis, qdec.rs).
+ghost use mathlib.Core.Path.{_≡_};
+ghost use mathlib.Core.Bool.{true, cond};
+ghost use lib.ListN.{length};
+ghost use Rattle.integers.specs.Base.{entry};
+ghost use Rattle.record.specs.Record.{number};
+ghost use Rattle.state.specs.State.{inBounds};
+ghost use Rattle.decoder.specs.Frame.{subframeHeard, filtersAfter, frameHeard, filtersAt, plainInputs, pitchInputs, receivedTo, frameSamples, frameState, erasedSamples, erasedState, receivedSamples, receivedState};
+ghost use Rattle.decoder.specs.Decoder.{refusal, acceptance, answerOf, samplesOf};
+use excitation::Subframe;
+use pitch::Rate;
+use postfilter::Postfilter;
+use record::Block;
+use refusals::Found;
+use refusals::Refusal;
+use refusals::Verdict;
+use state::State;
+
+// The memories that the subframes hand on.
+pub struct Filters {
+    pub syn_mem: [i16; 10],
+    pub pf: Postfilter,
+}
+
+// What is stored of a frame for erased ones (record_last_frame).
+pub struct LastFrame {
+    pub last_lag: i32,
+    pub last_lag2: i32,
+    pub last_taps_sum_q15: i32,
+    pub last_gain_unvoiced: i32,
+    pub erased_run: u32,
+}
+
+pub struct Answer {
+    pub verdict: Verdict,
+    pub state: State,
+}
+
+// The part that is lent becomes the subframe.
+fn write_samples(part: &mut [i16], out: [i16; 60])
+    requires { ⌜ length (now part) ≡ 60 ⌝ }
+    ensures { λ r. ⌜ now (part .exit) ≡ out ⌝ }
+{
+    let mut n: usize = 0;
+    while n < 60 {
+        part[n] = out[n];
+        n += 1;
+    }
+}
+
+// The output step of a subframe: its sixty samples into the part that is lent, and the memories after it.
+fn output_subframe(part: &mut [i16], on: bool, a: [i16; 10], x: [i32; 60], f: Filters) -> Filters
+    requires { ⌜ length (now part) ≡ 60 ⌝ }
+    ensures memories { λ r. ⌜ r ≡ filtersAfter on a x f ⌝ }
+    ensures samples { λ r. ⌜ now (part .exit) ≡ subframeHeard on a x f ⌝ }
+{
+    let mem = f.syn_mem;
+    let y = synthesis::synthesis_subframe(a, &x, mem);
+    let out = y.out;
+    let after = y.mem;
+    let pf = f.pf;
+    if !on {
+        write_samples(part, out);
+        return Filters {
+            syn_mem: after,
+            pf: pf,
+        };
+    }
+    let z = postfilter::formant_agc_subframe(pf, a, out);
+    let heard = z.out;
+    let kept = z.pf;
+    write_samples(part, heard);
+    Filters {
+        syn_mem: after,
+        pf: kept,
+    }
+}
+
+// Each subframe writes only its sixty samples.
+fn output_frame(
+    samples: &mut [i16],
+    on: bool,
+    sets: [[i16; 10]; 4],
+    inputs: [[i32; 60]; 4],
+    f: Filters,
+) -> Filters
+    requires { ⌜ length (now samples) ≡ 240 ⌝ }
+    ensures memories { λ r. ⌜ r ≡ filtersAt on sets inputs f 4 ⌝ }
+    ensures samples { λ r. ⌜ now (samples .exit) ≡ frameHeard on sets inputs f ⌝ }
+{
+    let mut g = f;
+    let mut s: usize = 0;
+    while s < 4 {
+        let a = sets[s];
+        let x = inputs[s];
+        let at = 60 * s;
+        let after = output_subframe(&mut samples[at..at + 60], on, a, x, g);
+        g = after;
+        s += 1;
+    }
+    g
+}
+
+// The tail that the classifier of erased frames reads (record_pcm_history).
+fn pcm_history(tail: &[i16]) -> [i16; 120]
+    requires { ⌜ length (now tail) ≡ 120 ⌝ }
+    ensures { λ r. ⌜ r ≡ now (tail .entry) ⌝ }
+{
+    let mut h = [0i16; 120];
+    let mut n: usize = 0;
+    while n < 120 {
+        h[n] = tail[n];
+        n += 1;
+    }
+    h
+}
+
+// The input of the synthesis of each subframe: the excitation itself.
+fn plain_inputs(signal: &[i16; 386]) -> [[i32; 60]; 4]
+    ensures { λ r. ⌜ r ≡ plainInputs (now (signal .entry)) ⌝ }
+{
+    let x0 = pitch::plain_subframe(signal, Subframe::Zero);
+    let x1 = pitch::plain_subframe(signal, Subframe::One);
+    let x2 = pitch::plain_subframe(signal, Subframe::Two);
+    let x3 = pitch::plain_subframe(signal, Subframe::Three);
+    [x0, x1, x2, x3]
+}
+
+// With the postfilter on, through the pitch postfilter.
+fn received_inputs(signal: &[i16; 386], on: bool, rate: Rate, lags: [i32; 4]) -> [[i32; 60]; 4]
+    ensures { λ r. ⌜ r ≡ cond on (pitchInputs rate (λ s. entry lags (number s)) (now (signal .entry))) (plainInputs (now (signal .entry))) ⌝ }
+{
+    if !on {
+        return plain_inputs(signal);
+    }
+    let x0 = pitch::pitch_postfilter(signal, Subframe::Zero, lags[0], rate);
+    let x1 = pitch::pitch_postfilter(signal, Subframe::One, lags[1], rate);
+    let x2 = pitch::pitch_postfilter(signal, Subframe::Two, lags[2], rate);
+    let x3 = pitch::pitch_postfilter(signal, Subframe::Three, lags[3], rate);
+    [x0, x1, x2, x3]
+}
+
+// The signal with the excitation of a subframe.
+fn received_subframe(signal: [i16; 386], s: Subframe, b: Block) -> [i16; 386]
+    ensures { λ r. ⌜ r ≡ receivedTo b signal s ⌝ }
+{
+    let taps = b.taps;
+    let fixed = b.fixed;
+    let u = excitation::acb_contribution(&signal, s, b.lag, taps);
+    let e = excitation::excitation_sum(u, fixed);
+    excitation::push_excitation(signal, s, e)
+}
+
+// The end of a frame: its samples, and the next state.
+fn finish_frame(
+    samples: &mut [i16],
+    given: State,
+    lsps: [i16; 10],
+    signal: [i16; 386],
+    inputs: [[i32; 60]; 4],
+    last: LastFrame,
+) -> State
+    requires { ⌜ length (now samples) ≡ 240 ⌝ }
+    requires { ⌜ inBounds given ≡ true ⌝ }
+    ensures state { λ r. ⌜ r ≡ frameState given lsps signal inputs last ⌝ }
+    ensures samples { λ r. ⌜ now (samples .exit) ≡ frameSamples given lsps signal inputs last ⌝ }
+{
+    let prev = given.prev_lsp;
+    let sets = lpc::frame_lpc_q13(prev, lsps);
+    let wide = given.syn_mem;
+    let mem = state::narrow_memory(wide);
+    let pf = given.pf;
+    let before = Filters {
+        syn_mem: mem,
+        pf: pf,
+    };
+    let f = output_frame(samples, given.postfilter, sets, inputs, before);
+    let tail = pcm_history(&samples[120..240]);
+    let history = state::history_after(&signal);
+    let narrow = f.syn_mem;
+    let after = state::widen_memory(narrow);
+    let pf_after = f.pf;
+    State {
+        prev_lsp: lsps,
+        exc_hist: history,
+        syn_mem: after,
+        pf: pf_after,
+        last_lag: last.last_lag,
+        last_lag2: last.last_lag2,
+        last_taps_sum_q15: last.last_taps_sum_q15,
+        last_gain_unvoiced: last.last_gain_unvoiced,
+        pcm_hist: tail,
+        erased_run: last.erased_run,
+        postfilter: given.postfilter,
+    }
+}
+
+// The Rust's decode_erased.
+fn decode_erased(samples: &mut [i16], given: State) -> State
+    requires { ⌜ length (now samples) ≡ 240 ⌝ }
+    requires { ⌜ inBounds given ≡ true ⌝ }
+    ensures state { λ r. ⌜ r ≡ erasedState given ⌝ }
+    ensures samples { λ r. ⌜ now (samples .exit) ≡ erasedSamples given ⌝ }
+{
+    let run = erasure::next_run(given.erased_run);
+    let prev = given.prev_lsp;
+    let candidates = lsp::lsp_extrapolate(prev);
+    let lsps = lsp::lsp_check_or_previous(candidates, prev, tables::LSP_DELTA_MIN_ERASURE_Q15);
+    let pcm = given.pcm_hist;
+    let class = voicing::classify_erasure_voicing(&pcm, given.last_lag2 as u8);
+    let tap_sum = given.last_taps_sum_q15 as i16;
+    let gain = given.last_gain_unvoiced as i16;
+    let history = given.exc_hist;
+    let silent = state::frame_signal(history);
+    let signal = erasure::erased_excitation(silent, class, tap_sum, gain, run);
+    let inputs = plain_inputs(&signal);
+    let last = LastFrame {
+        last_lag: given.last_lag,
+        last_lag2: given.last_lag2,
+        last_taps_sum_q15: given.last_taps_sum_q15,
+        last_gain_unvoiced: given.last_gain_unvoiced,
+        erased_run: run,
+    };
+    finish_frame(samples, given, lsps, signal, inputs, last)
+}
+
+// The Rust's decode_params, from lsp_check_or_previous on.
+fn decode_received(samples: &mut [i16], given: State, rate: Rate, record: &[u8]) -> State
+    requires { ⌜ length (now samples) ≡ 240 ⌝ }
+    requires { ⌜ inBounds given ≡ true ⌝ }
+    ensures state { λ r. ⌜ r ≡ receivedState given rate (now («record» .entry)) ⌝ }
+    ensures samples { λ r. ⌜ now (samples .exit) ≡ receivedSamples given rate (now («record» .entry)) ⌝ }
+{
+    let prev = given.prev_lsp;
+    let candidates = record::candidate_lsps(record);
+    let lsps = lsp::lsp_check_or_previous(candidates, prev, tables::LSP_DELTA_MIN_Q15);
+    let b0 = record::read_block(record, rate, Subframe::Zero);
+    let b1 = record::read_block(record, rate, Subframe::One);
+    let b2 = record::read_block(record, rate, Subframe::Two);
+    let b3 = record::read_block(record, rate, Subframe::Three);
+    let history = given.exc_hist;
+    let x0 = state::frame_signal(history);
+    let x1 = received_subframe(x0, Subframe::Zero, b0);
+    let x2 = received_subframe(x1, Subframe::One, b1);
+    let x3 = received_subframe(x2, Subframe::Two, b2);
+    let signal = received_subframe(x3, Subframe::Three, b3);
+    let lags = [b0.base_lag, b1.base_lag, b2.base_lag, b3.base_lag];
+    let inputs = received_inputs(&signal, given.postfilter, rate, lags);
+    let taps = b3.taps;
+    let last = LastFrame {
+        last_lag: b3.lag,
+        last_lag2: b2.lag,
+        last_taps_sum_q15: excitation::tap_sum(taps),
+        last_gain_unvoiced: excitation::unvoiced_gain(b2.gain, b3.gain),
+        erased_run: 0,
+    };
+    finish_frame(samples, given, lsps, signal, inputs, last)
+}
+
+fn refused(given: State, n: Refusal) -> Answer
+    ensures { λ r. ⌜ r ≡ refusal given n ⌝ }
+{
+    Answer {
+        verdict: Verdict::Refused(n),
+        state: given,
+    }
+}
+
+fn accepted(next: State) -> Answer
+    ensures { λ r. ⌜ r ≡ acceptance next ⌝ }
+{
+    Answer {
+        verdict: Verdict::Accepted,
+        state: next,
+    }
+}
+
+// Nothing is written before the last test.
+pub fn decode(given: State, record: &[u8], samples: &mut [i16]) -> Answer
+    ensures answer { λ r. ⌜ r ≡ answerOf given (now («record» .entry)) (now (samples .entry)) ⌝ }
+    ensures samples { λ r. ⌜ now (samples .exit) ≡ samplesOf given (now («record» .entry)) (now (samples .entry)) ⌝ }
+{
+    if samples.len() != 240 {
+        return refused(given, Refusal::SampleLength);
+    }
+    if !state::in_bounds(given) {
+        return refused(given, Refusal::StateBounds);
+    }
+    match refusals::examine(record) {
+        Found::Refused(n) => refused(given, n),
+        Found::Erased => {
+            let next = decode_erased(samples, given);
+            accepted(next)
+        }
+        Found::High => {
+            let next = decode_received(samples, given, Rate::High, record);
+            accepted(next)
+        }
+        Found::Low => {
+            let next = decode_received(samples, given, Rate::Low, record);
+            accepted(next)
+        }
+    }
+}
