@@ -1,0 +1,121 @@
+-- A state in bounds stays in bounds, whatever the record.
+use mathlib.Core.Path.{_≡_, refl}
+use mathlib.Core.Bool.{Bool, true, false, not, cond}
+use mathlib.Core.List.{List}
+use Prim.Native.Nat.{ℕ, _≤_}
+use lib.Dec.{eqb}
+use lib.IntN.{ℤ, pos}
+use lib.ListN.{length}
+use lib.Signed.{_≤ℤ_}
+use Rattle.integers.specs.Base.{up}
+use Rattle.integers.specs.Linear.{line}
+use Rattle.tables.specs.Constants.{frameSize}
+use Rattle.lpc.specs.Lpc.{frameCoefficients}
+use Rattle.excitation.specs.declared.Subframe.the-variants.{Two, Three}
+use Rattle.excitation.proofs.Bounds.{tap-sum-bounds, unvoiced-gain-most}
+use Rattle.pitch.specs.declared.Rate.{Rate}
+use Rattle.pitch.specs.declared.Rate.the-variants as rates
+use Rattle.erasure.specs.Erasure.{nextRun}
+use Rattle.voicing.specs.Voicing.{voicingOf}
+use Rattle.record.specs.Record.{byte, blockOf}
+use Rattle.refusals.specs.Refusals.{found}
+use Rattle.refusals.proofs.Accepted.{codes-high, codes-low}
+use Rattle.refusals.specs.declared.Refusal.the-variants.{SampleLength, StateBounds}
+use Rattle.refusals.specs.declared.Found.{Found}
+use Rattle.refusals.specs.declared.Found.the-variants.{Erased, High, Low, Refused}
+use Rattle.state.specs.State.{inBounds}
+use Rattle.state.specs.declared.State.{State}
+use Rattle.state.proofs.Bounds as states
+use Rattle.decoder.specs.Frame.{plainInputs, filtersOf, frameState, erasedLsps, erasedSignal, erasedLast, erasedState}
+use Rattle.decoder.specs.Frame.{receivedLsps, receivedSignal, receivedInputs, receivedLast, receivedState}
+use Rattle.decoder.specs.Decoder.{examined, answerTo}
+use Rattle.decoder.specs.declared.LastFrame.{LastFrame}
+use Rattle.theorems.specs.Bounds.{FreshInBounds, StaysInBounds}
+use Rattle.theorems.proofs.Histories.{WordsTo, history-words, erased-words, received-words}
+use Rattle.theorems.proofs.Memories.{memory-words}
+use Rattle.theorems.proofs.Gains.{gain-frame}
+use Rattle.theorems.proofs.Lags.{lag-bounds, lag2-bounds}
+
+pub fresh-in-bounds : FreshInBounds
+fresh-in-bounds = states.fresh-in-bounds
+
+-- ---- the end of a frame
+
+-- what is stored for erased frames is in bounds
+record LastIn (last : LastFrame) : Type 0 where
+  pub lag : (pos 17 ≤ℤ last .«last_lag») × (last .«last_lag» ≤ℤ pos 147)
+  pub lag2 : (pos 18 ≤ℤ last .«last_lag2») × (last .«last_lag2» ≤ℤ pos 145)
+  pub taps : (pos 0 ≤ℤ last .«last_taps_sum_q15») × (last .«last_taps_sum_q15» ≤ℤ pos 32767)
+  pub unvoiced : (pos 0 ≤ℤ last .«last_gain_unvoiced») × (last .«last_gain_unvoiced» ≤ℤ pos 13246)
+
+module _ (s : State) (h : inBounds s ≡ true) where
+  frame-in : (lsps signal : List ℤ) (inputs : List (List ℤ)) (last : LastFrame) → WordsTo 386 signal → LastIn last →
+      inBounds (frameState s lsps signal inputs last) ≡ true
+  unfolding frameState
+  frame-in lsps signal inputs last w l =
+      let sets = frameCoefficients (s .«prev_lsp») lsps in
+      let before = filtersOf s lsps signal inputs last in
+      states.bounds-from (frameState s lsps signal inputs last)
+      (history-words signal w)
+      (memory-words (s .postfilter) sets inputs before)
+      (record {
+        gain = gain-frame (s .postfilter) sets inputs before (states.numbers-of s h .gain) 4;
+        lag = l .lag;
+        lag2 = l .lag2;
+        taps = l .taps;
+        unvoiced = l .unvoiced;
+      })
+
+  -- ---- an erased and a received frame
+
+  erased-last : LastIn (erasedLast s)
+  erased-last =
+      let n = states.numbers-of s h in
+      record { lag = n .lag; lag2 = n .lag2; taps = n .taps; unvoiced = n .unvoiced }
+
+  erased-in : inBounds (erasedState s) ≡ true
+  unfolding erasedState
+  erased-in =
+      let voicing = voicingOf (s .«pcm_hist») (up (s .«last_lag2»)) in
+      frame-in (erasedLsps s) (erasedSignal s) (plainInputs (erasedSignal s)) (erasedLast s)
+      (erased-words voicing (s .«last_taps_sum_q15») (s .«last_gain_unvoiced») (nextRun (s .«erased_run»)) (s .«exc_hist»))
+      erased-last
+
+  module _ (rate : Rate) (r : List ℕ) (c : byte r 23 ≤ 127) (d : byte r 24 ≤ 3) where
+    received-last : LastIn (receivedLast s rate r)
+    received-last =
+        let most = unvoiced-gain-most (blockOf rate r Two .gain) (blockOf rate r Three .gain) in
+        record {
+          lag = lag-bounds rate r c d;
+          lag2 = lag2-bounds rate r c;
+          taps = tap-sum-bounds (blockOf rate r Three .taps);
+          unvoiced = omega line;
+        }
+
+    received-in : inBounds (receivedState s rate r) ≡ true
+    unfolding receivedState
+    received-in =
+        frame-in (receivedLsps s rate r) (receivedSignal s rate r) (receivedInputs s rate r) (receivedLast s rate r)
+        (received-words (blockOf rate r) (s .«exc_hist»)) received-last
+
+-- ---- a record
+
+module _ (s : State) (h : inBounds s ≡ true) (r : List ℕ) where
+  found-in : (f : Found) → found r ≡ f → inBounds (answerTo f s r .state) ≡ true
+  unfolding answerTo
+  found-in (Refused n) e = h
+  found-in Erased e = erased-in s h
+  found-in High e = let c = codes-high r e in received-in s h rates.High r (c .lag-b) (c .step-b)
+  found-in Low e = let c = codes-low r e in received-in s h rates.Low r (c .lag-b) (c .step-b)
+
+  -- by the tests of numbers 1 and 2
+  tested-in : (a b : Bool) →
+      inBounds (answerTo (cond a (Refused SampleLength) (cond b (Refused StateBounds) (found r))) s r .state) ≡ true
+  unfolding answerTo
+  tested-in true b = h
+  tested-in false true = h
+  tested-in false false = found-in (found r) refl
+
+pub stays-in-bounds : StaysInBounds
+unfolding examined
+stays-in-bounds s i h = tested-in s h (i .bytes) (not (eqb (length (i .samples)) frameSize)) (not (inBounds s))

@@ -1,0 +1,87 @@
+-- Over received frames LSPs and excitation follow from those before and the record, lags, tap sum and gain from the record.
+use mathlib.Core.Path.{_≡_, refl, sym, ap, _∙_, subst}
+use mathlib.Core.Bool.{Bool, true, false, cond, not}
+use mathlib.Core.List.{List, [], _∷_}
+use Prim.Native.Nat.{ℕ}
+use lib.Dec.{T, eqb}
+use lib.IntN.{ℤ, pos}
+use lib.ListN.{length}
+use Rattle.tables.specs.Constants.{frameSize, lspMinimum}
+use Rattle.lsp.specs.Lsps.{checkOrPrevious}
+use Rattle.excitation.specs.Excitation.{inTurn}
+use Rattle.pitch.specs.declared.Rate.{Rate}
+use Rattle.pitch.specs.declared.Rate.the-variants as rates
+use Rattle.record.specs.Record.{candidates, blockOf}
+use Rattle.refusals.specs.Refusals.{found}
+use Rattle.refusals.specs.declared.Found.{Found}
+use Rattle.refusals.specs.declared.Found.the-variants.{Erased, High, Low, Refused}
+use Rattle.refusals.specs.declared.Refusal.{Refusal}
+use Rattle.refusals.specs.declared.Refusal.the-variants.{SampleLength, StateBounds}
+use Rattle.state.specs.State.{freshState, inBounds, frameSignal, historyAfter}
+use Rattle.state.specs.declared.State.{State}
+use Rattle.state.proofs.Bounds.{fresh-in-bounds}
+use Rattle.decoder.specs.Frame.{frameState, receivedTo, receivedState}
+use Rattle.decoder.specs.Decoder.{examined, answerTo}
+use Rattle.theorems.specs.Call.{Item, next, after}
+use Rattle.theorems.proofs.Bounds.{stays-in-bounds}
+use Rattle.theorems.specs.Choice.{SameKept, isErased, KeptFrom, PostfilterChoice}
+use Rattle.theorems.proofs.Examined.{examined-same}
+
+-- ---- one record
+
+module _ (s t : State) (k : SameKept s t) (r : List ℕ) where
+  kept-received : (rate : Rate) → SameKept (receivedState s rate r) (receivedState t rate r)
+  unfolding frameState receivedState
+  kept-received rate = record {
+    lsps = ap (checkOrPrevious (pos lspMinimum) (candidates r)) (k .lsps);
+    history =
+        ap (λ (x : List ℤ). historyAfter (inTurn (λ y n. receivedTo (blockOf rate r n) y n) (frameSignal x))) (k .history);
+    lag = refl;
+    lag2 = refl;
+    tapSum = refl;
+    gain = refl;
+  }
+
+  kept-to : (f : Found) → isErased f ≡ false → SameKept (answerTo f s r .state) (answerTo f t r .state)
+  unfolding answerTo
+  kept-to (Refused n) h = k
+  kept-to Erased h = absurd (subst T h tt)
+  kept-to High h = kept-received rates.High
+  kept-to Low h = kept-received rates.Low
+
+-- ---- what is found of it
+
+refused-or : (b : Bool) (n : Refusal) (f : Found) → isErased f ≡ false → isErased (cond b (Refused n) f) ≡ false
+refused-or true n f h = refl
+refused-or false n f h = h
+
+not-erased : (s : State) (r : List ℕ) (x : List ℤ) → isErased (found r) ≡ false → isErased (examined s r x) ≡ false
+unfolding examined
+not-erased s r x h =
+    let rest = cond (not (inBounds s)) (Refused StateBounds) (found r) in
+    refused-or (not (eqb (length x) frameSize)) SampleLength rest (refused-or (not (inBounds s)) StateBounds (found r) h)
+
+kept-next :
+    (s t : State) (i : Item) → inBounds s ≡ true → inBounds t ≡ true → SameKept s t → isErased (found (i .bytes)) ≡ false
+    → SameKept (next s i) (next t i)
+kept-next s t i a b k h =
+    let r = i .bytes in
+    let x = i .samples in
+    subst (λ (f : Found). SameKept (next s i) (answerTo f t r .state))
+    (examined-same s t r x (a ∙ sym b)) (kept-to s t k r (examined s r x) (not-erased s r x h))
+
+-- ---- a sequence, of which each state is in bounds
+
+pub kept-from : KeptFrom
+unfolding after
+kept-from s t [] a b k n = k
+kept-from s t (i ∷ is) a b k n =
+    kept-from (next s i) (next t i) is (stays-in-bounds s i a) (stays-in-bounds t i b) (kept-next s t i a b k (n .0)) (n .1)
+
+fresh-kept : SameKept (freshState true) (freshState false)
+unfolding freshState
+fresh-kept = record { lsps = refl; history = refl; lag = refl; lag2 = refl; tapSum = refl; gain = refl }
+
+pub postfilter-choice : PostfilterChoice
+postfilter-choice items n =
+    kept-from (freshState true) (freshState false) items (fresh-in-bounds true) (fresh-in-bounds false) fresh-kept n

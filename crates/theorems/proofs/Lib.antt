@@ -1,0 +1,11 @@
+pub mod Bounds
+pub mod Choice
+pub mod Examined
+pub mod Gains
+pub mod Histories
+pub mod Lags
+pub mod LastLag
+pub mod Memories
+pub mod Refused
+pub mod Values
+pub mod Words

@@ -1,0 +1,6 @@
+pub mod Call
+pub mod Bounds
+pub mod Refused
+pub mod Choice
+pub mod LastLag
+pub mod Values

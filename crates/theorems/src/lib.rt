@@ -1,0 +1,1 @@
+// Laws that the crates above cite; see specs/.
