@@ -1,10 +1,11 @@
 #!/usr/bin/env python3
-"""Prints the questions of crate answers, a line each, in a fixed order.
+"""Prints the questions of program answers, a line each, in a fixed order.
 
 Operators of two operands: all pairs of edge values and a spread of others; l_mac a selection of them. Roots: at squares and
 beside them. Pairs of words: products, multiples, shifts, orders and quotients at edges and over a spread. LSPs: by classes of
 vectors, and by the passes that stabilising them takes. Pulses: codes at their limits, at each change of the first slot and at
 each weight, and descriptions by lag, gain, signs and pulses that meet. Excitation, synthesis and postfilters: signals.py.
+Voicing and the noise word: voicing.py.
 
 With --counts it prints instead how many vectors of LSPs each class has, with --codes every position code of both counts.
 """
@@ -13,6 +14,7 @@ import random
 import sys
 
 import signals
+import voicing
 
 EDGES16 = [-32768, -32767, -16385, -16384, -16383, -257, -256, -2, -1, 0, 1, 2, 255, 256, 16383, 16384, 16385, 32766, 32767]
 EDGES32 = [-2147483648, -2147483647, -1073741825, -1073741824, -65537, -65536, -32769, -32768, -1, 0, 1, 32767, 32768, 65535, 65536, 1073741823, 1073741824, 2147450879, 2147450880, 2147483646, 2147483647]
@@ -344,6 +346,7 @@ def main():
     signals.synthesis(ask, rng)
     signals.pitch(ask, rng)
     signals.formant(ask, rng)
+    voicing.voicing(ask, rng)
 
 
 if __name__ == "__main__":

@@ -2,6 +2,7 @@
 // line of decimal numbers. The file `stdin` has the questions and `stdout` the oracle's answers (tests/make-answers). A
 // question has one space between its words and numbers that fit; what else a line may hold is not looked for.
 mod descriptions;
+mod erasures;
 mod input;
 mod lsps;
 mod names;
@@ -23,6 +24,9 @@ fn question(buf: &mut [u8], c: Cursor) -> Cursor {
     let n = w.name;
     if lsps::is_lsp(n) {
         return lsps::answer(buf, n, k);
+    }
+    if erasures::is_erasure(n) {
+        return erasures::answer(buf, n, k);
     }
     if descriptions::is_pulse(n) {
         return descriptions::answer(buf, n, k);

@@ -4,6 +4,8 @@ pub(crate) const ACB_CONTRIBUTION: u64 = 0x6D9D_E823_5E4C_91A5;
 
 pub(crate) const ADD: u64 = 0x0062_2729;
 
+pub(crate) const CLASSIFY_ERASURE_VOICING: u64 = 0x6415_176E_B92D_1802;
+
 pub(crate) const COS_Q14: u64 = 0x0065_C979_4B6B_7B7A;
 
 pub(crate) const EXCITATION_SUBFRAME: u64 = 0x3323_D023_C3B6_BEEC;
@@ -37,6 +39,8 @@ pub(crate) const LSP_TO_LPC_Q13: u64 = 0x6054_DC4F_DE4A_0463;
 pub(crate) const MPMLQ_FIXED_VECTOR: u64 = 0x45EE_A9B0_2553_F488;
 
 pub(crate) const MULT: u64 = 0x6EBE_9EC2;
+
+pub(crate) const NOISE_START: u64 = 0x68F4_D412_CD04_39AB;
 
 pub(crate) const PITCH_POSTFILTER: u64 = 0x0A2E_C78D_60A7_82C3;
 

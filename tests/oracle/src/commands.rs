@@ -4,6 +4,7 @@ use std::io::{self, BufRead, Write};
 use std::process::ExitCode;
 use std::{env, fs, panic};
 
+use crate::calls;
 use crate::frames;
 use crate::numbers::Numbers;
 use crate::qdec::QSynthesis;
@@ -16,6 +17,7 @@ const USAGE: &str = "usage: oracle COMMAND
                       document 01's program; --state adds a line S and the state to each answer,
                       --from starts at the state in FILE, 315 numbers in a line,
                       --postfilter-off switches the postfilter off in the state at the start
+  calls               whole calls, a state, a record or a fresh start in each line
   layers              questions NAME number number .. , one a line";
 
 /// Runs the command that the words name.
@@ -27,6 +29,9 @@ pub fn run() -> ExitCode {
         ["selfcheck"] => return check("20000"),
         ["selfcheck", count] => return check(count),
         ["frames", options @ ..] => run_frames(options),
+        ["calls"] => {
+            calls::run(io::stdin().lock(), io::stdout().lock()).map_err(|error| error.to_string())
+        }
         ["layers"] => answer_layers(),
         _ => Err(USAGE.to_string()),
     };

@@ -1,5 +1,6 @@
 //! Test oracle: OxideAV/oxideav-g7231's fixed-point decoder, unchanged, behind a driver.
 
+mod calls;
 mod commands;
 mod frames;
 mod numbers;

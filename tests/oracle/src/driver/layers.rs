@@ -24,7 +24,8 @@
 //! pitch_postfilter kind start lag hist(146) frame(240)           out(60); kind 1 High, 2 Low
 //! formant_agc_subframe a(10) sy(60) num(10) den(10) tilt_prev tilt_k1 gain
 //!                                         out(60) num(10) den(10) tilt_prev tilt_k1 gain
-//! classify last_lag2 pcm(120)             voiced lag
+//! classify_erasure_voicing last_lag2 pcm(120)                   0, or 1 and the lag where voiced
+//! noise_start run                         the noise word at the start of an erased frame
 //! decode_erased STATE                     samples(240) STATE
 //! ```
 
@@ -40,7 +41,7 @@ use crate::spec_tables::fcbk_unpk_positions;
 type Layer = fn(&mut Numbers) -> Option<String>;
 
 /// Each layer with the count of its numbers. All are taken before the function is called.
-const LAYERS: [(&str, usize, Layer); 35] = [
+const LAYERS: [(&str, usize, Layer); 36] = [
     ("saturate", 1, |q| one(saturate(q.one()?))),
     ("add", 2, |q| one(add(q.one()?, q.one()?))),
     ("sub", 2, |q| one(sub(q.one()?, q.one()?))),
@@ -76,7 +77,8 @@ const LAYERS: [(&str, usize, Layer); 35] = [
     ("synthesis_subframe", 80, synthesis),
     ("pitch_postfilter", 389, pitch),
     ("formant_agc_subframe", 93, formant_tilt_gain),
-    ("classify", 121, classify),
+    ("classify_erasure_voicing", 121, classify),
+    ("noise_start", 1, noise_start),
     ("decode_erased", 315, erased),
 ];
 
@@ -245,13 +247,19 @@ fn formant_tilt_gain(q: &mut Numbers) -> Option<String> {
     list(out.chain(state::postfilter_numbers(&pf)))
 }
 
-/// Voiced or not, then the lag.
+/// Voiced or not, and the lag where voiced; no frame uses the other.
 fn classify(q: &mut Numbers) -> Option<String> {
     let mut state = QSynthesis::new();
     state.last_lag2 = q.one()?;
     state.pcm_hist = q.array()?;
     let (voiced, lag) = state.classify_erasure_voicing();
-    list([i32::from(voiced), lag])
+    if voiced { list([1, lag]) } else { one(0) }
+}
+
+/// The noise word as `decode_erased` starts it; it has no function of its own there.
+fn noise_start(q: &mut Numbers) -> Option<String> {
+    let run: u32 = q.one()?;
+    one(0xDEAD_BEEFu32.wrapping_add(run.wrapping_mul(0x9E37_79B9)))
 }
 
 /// An erased frame's samples, then the state.

@@ -1,0 +1,92 @@
+//! Whole calls over a state that goes on from line to line. A line has a letter, three fields of four hexadecimal digits, and
+//! as many bytes, two digits each, as the third field says:
+//!
+//! ```text
+//! F   a fresh state, with the postfilter if the first field is 1
+//! S   a state: the 315 numbers of state.rs, four bytes each
+//! D   a record: the first field is the length of the samples, each of which is the second field before
+//! ```
+//!
+//! The answer is a number, 0 but for a record that was refused, and the checksums of the samples and of the state: a
+//! polynomial in 1000003 modulo the prime 2^43 - 57, so that each number and its place count.
+
+use std::io::{self, BufRead, Write};
+
+use crate::numbers::Numbers;
+use crate::qdec::QSynthesis;
+use crate::qdec::driver::state;
+use crate::record;
+
+/// Answers each line of the input; `?` for what is none.
+pub fn run(input: impl BufRead, mut output: impl Write) -> io::Result<()> {
+    let mut current = state::fresh(true);
+    for line in input.lines() {
+        match answer(&mut current, &line?) {
+            Some((number, samples)) => {
+                let state = checksum(state::to_numbers(&current));
+                writeln!(output, "{number} {} {state}", checksum(samples))?;
+            }
+            None => writeln!(output, "?")?,
+        }
+    }
+    output.flush()
+}
+
+/// The number and what the samples then hold.
+fn answer(current: &mut QSynthesis, line: &str) -> Option<(u8, Vec<i128>)> {
+    let field = |at: usize| u16::from_str_radix(line.get(at..at + 4)?, 16).ok();
+    let (first, second, count) = (field(1)?, field(5)?, field(9)?);
+    let bytes = bytes(line.get(13..)?)?;
+    if bytes.len() != usize::from(count) {
+        return None;
+    }
+    match line.get(..1)? {
+        "F" => *current = state::fresh(first == 1),
+        "S" => *current = state::from_numbers(&mut image(&bytes))?,
+        "D" => return Some(decode(current, first, second as i16, &bytes)),
+        _ => return None,
+    }
+    Some((0, Vec::new()))
+}
+
+/// Number 1 here, the others by `record`.
+fn decode(current: &mut QSynthesis, length: u16, mark: i16, bytes: &[u8]) -> (u8, Vec<i128>) {
+    let decoded = match length {
+        240 => record::decode(current, bytes),
+        _ => Err(1),
+    };
+    let (number, samples) = match decoded {
+        Ok(samples) => (0, samples.to_vec()),
+        Err(number) => (number, vec![mark; usize::from(length)]),
+    };
+    (number, samples.into_iter().map(i128::from).collect())
+}
+
+/// The bytes of pairs of digits.
+fn bytes(text: &str) -> Option<Vec<u8>> {
+    (0..text.len())
+        .step_by(2)
+        .map(|at| u8::from_str_radix(text.get(at..at + 2)?, 16).ok())
+        .collect()
+}
+
+/// The numbers of a state. The run of erased frames, the last but one, is the one without a sign.
+fn image(bytes: &[u8]) -> Numbers {
+    let words = bytes
+        .chunks_exact(4)
+        .map(|b| u32::from_be_bytes(b.try_into().unwrap()));
+    let signed = |(i, n): (usize, u32)| {
+        if i == 313 {
+            i128::from(n)
+        } else {
+            i128::from(n as i32)
+        }
+    };
+    Numbers::from(words.enumerate().map(signed).collect::<Vec<i128>>())
+}
+
+fn checksum(list: impl IntoIterator<Item = i128>) -> i128 {
+    list.into_iter().fold(0, |sum, n| {
+        (sum * 1_000_003 + n + (1 << 31)) % ((1 << 43) - 57)
+    })
+}
