@@ -1,0 +1,95 @@
+//! Our decoder with its state, as C sees it.
+
+unsafe extern "C" {
+    safe fn ours_decode(
+        prev_lsp: &mut [i16; 10],
+        exc_hist: &mut [i32; 146],
+        syn_mem: &mut [i32; 10],
+        num_mem: &mut [i16; 10],
+        den_mem: &mut [i16; 10],
+        tilt: &mut [i16; 2],
+        numbers: &mut [i32; 5],
+        pcm_hist: &mut [i16; 120],
+        erased_run: &mut [u32; 1],
+        postfilter: bool,
+        bytes: &[u8; 600],
+        count: u16,
+        samples: &mut [i16; 240],
+    ) -> u8;
+}
+
+pub struct Ours {
+    prev_lsp: [i16; 10],
+    exc_hist: [i32; 146],
+    syn_mem: [i32; 10],
+    num_mem: [i16; 10],
+    den_mem: [i16; 10],
+    tilt: [i16; 2],
+    numbers: [i32; 5],
+    pcm_hist: [i16; 120],
+    erased_run: [u32; 1],
+    postfilter: bool,
+}
+
+/// The next `N` numbers of a list, which fit.
+fn take<T: TryFrom<i128>, const N: usize>(list: &mut &[i128]) -> [T; N] {
+    let (now, rest) = list.split_at(N);
+    *list = rest;
+    std::array::from_fn(|i| T::try_from(now[i]).ok().expect("the number fits its field"))
+}
+
+impl Ours {
+    /// From the 315 numbers of the oracle's state.rs.
+    pub fn from_numbers(mut list: &[i128]) -> Self {
+        let list = &mut list;
+        Self {
+            prev_lsp: take(list),
+            exc_hist: take(list),
+            syn_mem: take(list),
+            num_mem: take(list),
+            den_mem: take(list),
+            tilt: take(list),
+            numbers: take(list),
+            pcm_hist: take(list),
+            erased_run: take(list),
+            postfilter: take::<u8, 1>(list)[0] == 1,
+        }
+    }
+
+    pub fn to_numbers(&self) -> Vec<i128> {
+        let mut list: Vec<i128> = self.prev_lsp.map(i128::from).to_vec();
+        list.extend(self.exc_hist.map(i128::from));
+        list.extend(self.syn_mem.map(i128::from));
+        list.extend(self.num_mem.map(i128::from));
+        list.extend(self.den_mem.map(i128::from));
+        list.extend(self.tilt.map(i128::from));
+        list.extend(self.numbers.map(i128::from));
+        list.extend(self.pcm_hist.map(i128::from));
+        list.extend(self.erased_run.map(i128::from));
+        list.push(i128::from(self.postfilter));
+        list
+    }
+
+    /// The number, 0 where the record was accepted, and what the samples then hold that were `mark` before.
+    pub fn decode(&mut self, record: &[u8], mark: i16) -> (u8, [i16; 240]) {
+        let mut samples = [mark; 240];
+        let mut bytes = [0u8; 600];
+        bytes[..record.len()].copy_from_slice(record);
+        let number = ours_decode(
+            &mut self.prev_lsp,
+            &mut self.exc_hist,
+            &mut self.syn_mem,
+            &mut self.num_mem,
+            &mut self.den_mem,
+            &mut self.tilt,
+            &mut self.numbers,
+            &mut self.pcm_hist,
+            &mut self.erased_run,
+            self.postfilter,
+            &bytes,
+            record.len() as u16,
+            &mut samples,
+        );
+        (number, samples)
+    }
+}
