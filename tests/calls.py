@@ -2,8 +2,8 @@
 """Prints the lines of program calls: whole calls, and single records from given states.
 
 Calls are High, Low and mixed, with losses of 1 to 6 frames after voiced and unvoiced speech, silence, saturation, unstable
-LSPs, extreme taps and lags at both ends, with the postfilter on and off. Every number is asked alone and with lower ones true
-as well, and states at each bound of number 2 and one beyond.
+LSPs, extreme taps and lags at both ends, with the postfilter on and off. Every number is asked alone, with each lower one and
+with all lower ones true as well, and states at each bound of number 2 and one beyond.
 """
 import random
 
@@ -227,36 +227,54 @@ def given(rng):
 
 
 def wrong(number, record):
-    """The record with the fault of a number from 6 on, in a late subframe."""
+    """The record with the fault of a number, from 6 on in a late subframe."""
     r = list(record)
-    at, kind = (25, r[0])
-    if number == 6:
-        r[23] = 128
-    elif number == 7:
-        r[24] = 4
-    elif number == 8:
-        r[at + 3 * BLOCK[kind] + 10] = 24
-    elif number == 9:
-        r[at + 2 * BLOCK[kind] + 11] = 4
-    elif number == 10:
-        r[at + 12] = 64
+    if number == 3:
+        return []
+    if number == 4:
+        return [3] + r[1:]
+    if number == 5:
+        return r + [0]
+    at, size = 25, BLOCK[r[0]]
+    place, value = {6: (23, 128), 7: (24, 4), 8: (at + 3 * size + 10, 24), 9: (at + 2 * size + 11, 4), 10: (at + 12, 64)}[number]
+    r[place] = value
     return r
+
+
+def at_once(numbers, record):
+    """The record with the faults of several numbers, in samples of 239 where 1 is one of them."""
+    for n in sorted(numbers, reverse=True):
+        if n > 2:
+            record = wrong(n, record)
+    decode(record, 239 if 1 in numbers else 240)
+
+
+def lower(number):
+    """The lower numbers whose faults a record can have as well. One without a byte has no others, one of no kind no length."""
+    return [m for m in range(1, number) if m != 3 and (m, number) != (4, 5)]
 
 
 def numbers(rng):
     fresh()
     good = voiced(rng)
     plain = silent(HIGH)
-    for n in (6, 7, 8, 9, 10):
-        decode(wrong(n, plain))
-        for m in range(6, n):
-            decode(wrong(m, wrong(n, plain)))
-        # Length, kind and sample length come before.
-        decode(wrong(n, plain) + [0])
-        decode([3] + wrong(n, plain)[1:])
-        decode(wrong(n, plain), 239)
+    # Alone, with each lower one, and with all lower ones: first from a state in bounds, then from one that is not.
+    cases = dict.fromkeys(frozenset([n, *more]) for n in range(1, 11) for more in ([], *([m] for m in lower(n)), lower(n)))
     for n in (6, 7, 8):
-        decode(wrong(n, silent(LOW)))
+        at_once({n}, silent(LOW))
+    for case in cases:
+        if 2 not in case:
+            at_once(case, plain)
+    decode(good)
+    f = fields()
+    f["last_lag"] = [148]
+    state(f)
+    for case in cases:
+        if 2 in case:
+            at_once(case, plain)
+    decode(plain)
+    decode(ERASED)
+    fresh()
     # Two faults, the lower number in the later subframe.
     for s, t, first, second in ((0, 3, 9, 8), (0, 3, 10, 9), (0, 3, 10, 8), (1, 2, 9, 8)):
         r = list(plain)
@@ -292,13 +310,6 @@ def numbers(rng):
         decode(plain, length, -3)
         decode([], length)
     decode(good)
-    # A state out of bounds comes before all of the record, and after the samples.
-    f = fields()
-    f["last_lag"] = [148]
-    state(f)
-    for record in ([], [3], [0, 0], wrong(6, plain), wrong(10, plain), plain, ERASED):
-        decode(record)
-    decode([], 239)
 
 
 if __name__ == "__main__":

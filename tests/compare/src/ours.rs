@@ -1,7 +1,7 @@
 //! Our decoder with its state, as C sees it.
 
 unsafe extern "C" {
-    safe fn ours_decode(
+    fn ours_decode(
         prev_lsp: &mut [i16; 10],
         exc_hist: &mut [i32; 146],
         syn_mem: &mut [i32; 10],
@@ -12,9 +12,10 @@ unsafe extern "C" {
         pcm_hist: &mut [i16; 120],
         erased_run: &mut [u32; 1],
         postfilter: bool,
-        bytes: &[u8; 600],
-        count: u16,
-        samples: &mut [i16; 240],
+        record: *const u8,
+        record_length: usize,
+        samples: *mut i16,
+        samples_length: usize,
     ) -> u8;
 }
 
@@ -73,23 +74,25 @@ impl Ours {
     /// The number, 0 where the record was accepted, and what the samples then hold that were `mark` before.
     pub fn decode(&mut self, record: &[u8], mark: i16) -> (u8, [i16; 240]) {
         let mut samples = [mark; 240];
-        let mut bytes = [0u8; 600];
-        bytes[..record.len()].copy_from_slice(record);
-        let number = ours_decode(
-            &mut self.prev_lsp,
-            &mut self.exc_hist,
-            &mut self.syn_mem,
-            &mut self.num_mem,
-            &mut self.den_mem,
-            &mut self.tilt,
-            &mut self.numbers,
-            &mut self.pcm_hist,
-            &mut self.erased_run,
-            self.postfilter,
-            &bytes,
-            record.len() as u16,
-            &mut samples,
-        );
+        // SAFETY: both slices are as long as is said, and nothing else refers to the samples.
+        let number = unsafe {
+            ours_decode(
+                &mut self.prev_lsp,
+                &mut self.exc_hist,
+                &mut self.syn_mem,
+                &mut self.num_mem,
+                &mut self.den_mem,
+                &mut self.tilt,
+                &mut self.numbers,
+                &mut self.pcm_hist,
+                &mut self.erased_run,
+                self.postfilter,
+                record.as_ptr(),
+                record.len(),
+                samples.as_mut_ptr(),
+                samples.len(),
+            )
+        };
         (number, samples)
     }
 }
