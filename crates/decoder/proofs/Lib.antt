@@ -1,4 +1,3 @@
 pub mod Fields
-pub mod Subframes
 pub mod Frames
 pub mod Answers

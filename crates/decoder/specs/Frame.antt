@@ -1,63 +1,27 @@
--- A frame (document 01, "Adaptive part", "Erasure" and "Frame"; the Rust's decode_params from lsp_check_or_previous on, and decode_erased): LSPs, the excitation of four subframes, then for each the synthesis and what is heard.
-use mathlib.Core.Bool.{Bool, cond}
-use mathlib.Core.List.{List, [], _∷_, _++_}
-use Prim.Native.Nat.{ℕ, zero, suc, _-_}
+-- A frame (document 01, "Adaptive part", "Erasure" and "Frame"; the Rust's decode_params from lsp_check_or_previous on, and decode_erased): LSPs, the excitation of four subframes, then what is heard of them (crate output).
+use mathlib.Core.Bool.{cond}
+use mathlib.Core.List.{List, [], _∷_}
+use Prim.Native.Nat.{ℕ, _-_}
 use lib.IntN.{ℤ, pos}
-use lib.ListN.{getD, drop}
+use lib.ListN.{drop}
 use Rattle.integers.specs.Base.{up}
-use Rattle.tables.specs.Constants.{subframesPerFrame, frameSize, classifierHistory, lspMinimum, lspMinimumErased}
+use Rattle.tables.specs.Constants.{frameSize, classifierHistory, lspMinimum, lspMinimumErased}
 use Rattle.lsp.specs.Lsps.{checkOrPrevious, extrapolated}
 use Rattle.lpc.specs.Lpc.{frameCoefficients}
 use Rattle.excitation.specs.Excitation.{place, withSubframe, inTurn, limitedLag, adaptive, limitedSum, tapSum, unvoicedGain}
 use Rattle.excitation.specs.declared.Subframe.{Subframe}
 use Rattle.excitation.specs.declared.Subframe.the-variants.{Zero, One, Two, Three}
-use Rattle.synthesis.specs.Synthesis.{synthesised, memoryAfter}
 use Rattle.pitch.specs.Pitch.{unchanged, postfiltered}
 use Rattle.pitch.specs.declared.Rate.{Rate}
-use Rattle.postfilter.specs.Postfilter.{filtered, postfilterAfter}
+use Rattle.output.specs.Output.{frameHeard, frameFilters}
+use Rattle.output.specs.declared.Filters.{Filters}
 use Rattle.voicing.specs.Voicing.{voicingOf}
 use Rattle.erasure.specs.Erasure.{nextRun, erasedExcitation}
 use Rattle.record.specs.Record.{candidates, blockOf}
 use Rattle.record.specs.declared.Block.{Block}
 use Rattle.state.specs.State.{frameSignal, historyAfter}
 use Rattle.state.specs.declared.State.{State}
-use Rattle.decoder.specs.declared.Filters.{Filters}
 use Rattle.decoder.specs.declared.LastFrame.{LastFrame}
-
--- ---- what is heard of a subframe
-
--- The postfilter on or off, the coefficients a, the input x of the synthesis, and the memories f.
-module _ (on : Bool) (a x : List ℤ) (f : Filters) where
-  abbrev pub synthesisOf : List ℤ
-  synthesisOf = synthesised a x (f .«syn_mem»)
-
-  -- its sixty samples: off, the synthesis output is the sample
-  unfoldable pub subframeHeard : List ℤ
-  subframeHeard = cond on (filtered (f .pf) a synthesisOf) synthesisOf
-
-  -- the memories after it: off, that of formant, tilt and gain keeps its values
-  unfoldable pub filtersAfter : Filters
-  filtersAfter = record {
-    «syn_mem» = memoryAfter a x (f .«syn_mem»);
-    pf = cond on (postfilterAfter (f .pf) a synthesisOf) (f .pf);
-  }
-
--- ---- of a frame: a set of coefficients and an input for each subframe, and the memories before it
-
-module _ (on : Bool) (sets inputs : List (List ℤ)) (f : Filters) where
-  -- the memories before subframe k
-  unfoldable pub filtersAt : ℕ → Filters
-  filtersAt zero = f
-  filtersAt (suc k) = filtersAfter on (getD sets k []) (getD inputs k []) (filtersAt k)
-
-  -- the samples of the first k subframes
-  unfoldable pub heardTo : ℕ → List ℤ
-  heardTo zero = []
-  heardTo (suc k) = heardTo k ++ subframeHeard on (getD sets k []) (getD inputs k []) (filtersAt k)
-
-  -- all 240
-  abbrev pub frameHeard : List ℤ
-  frameHeard = heardTo subframesPerFrame
 
 -- ---- the input of the synthesis
 
@@ -84,7 +48,7 @@ module _ (s : State) (lsps signal : List ℤ) (inputs : List (List ℤ)) (last :
   frameSamples = frameHeard (s .postfilter) (frameCoefficients (s .«prev_lsp») lsps) inputs filtersOf
 
   abbrev pub filtersLast : Filters
-  filtersLast = filtersAt (s .postfilter) (frameCoefficients (s .«prev_lsp») lsps) inputs filtersOf subframesPerFrame
+  filtersLast = frameFilters (s .postfilter) (frameCoefficients (s .«prev_lsp») lsps) inputs filtersOf
 
   unfoldable pub frameState : State
   frameState = record {

@@ -5,22 +5,16 @@ ghost use lib.ListN.{length};
 ghost use Rattle.integers.specs.Base.{entry};
 ghost use Rattle.record.specs.Record.{number};
 ghost use Rattle.state.specs.State.{inBounds};
-ghost use Rattle.decoder.specs.Frame.{subframeHeard, filtersAfter, frameHeard, filtersAt, plainInputs, pitchInputs, receivedTo, frameSamples, frameState, erasedSamples, erasedState, receivedSamples, receivedState};
+ghost use Rattle.decoder.specs.Frame.{plainInputs, pitchInputs, receivedTo, frameSamples, frameState, erasedSamples, erasedState, receivedSamples, receivedState};
 ghost use Rattle.decoder.specs.Decoder.{refusal, acceptance, answerOf, samplesOf};
 use excitation::Subframe;
+use output::Filters;
 use pitch::Rate;
-use postfilter::Postfilter;
 use record::Block;
 use refusals::Found;
 use refusals::Refusal;
 use refusals::Verdict;
 use state::State;
-
-// The memories that the subframes hand on.
-pub struct Filters {
-    pub syn_mem: [i16; 10],
-    pub pf: Postfilter,
-}
 
 // What is stored of a frame for erased ones (record_last_frame).
 pub struct LastFrame {
@@ -34,71 +28,6 @@ pub struct LastFrame {
 pub struct Answer {
     pub verdict: Verdict,
     pub state: State,
-}
-
-// The part that is lent becomes the subframe.
-fn write_samples(part: &mut [i16], out: [i16; 60])
-    requires { ⌜ length (now part) ≡ 60 ⌝ }
-    ensures { λ r. ⌜ now (part .exit) ≡ out ⌝ }
-{
-    let mut n: usize = 0;
-    while n < 60 {
-        part[n] = out[n];
-        n += 1;
-    }
-}
-
-// The output step of a subframe: its sixty samples into the part that is lent, and the memories after it.
-fn output_subframe(part: &mut [i16], on: bool, a: [i16; 10], x: [i32; 60], f: Filters) -> Filters
-    requires { ⌜ length (now part) ≡ 60 ⌝ }
-    ensures memories { λ r. ⌜ r ≡ filtersAfter on a x f ⌝ }
-    ensures samples { λ r. ⌜ now (part .exit) ≡ subframeHeard on a x f ⌝ }
-{
-    let mem = f.syn_mem;
-    let y = synthesis::synthesis_subframe(a, &x, mem);
-    let out = y.out;
-    let after = y.mem;
-    let pf = f.pf;
-    if !on {
-        write_samples(part, out);
-        return Filters {
-            syn_mem: after,
-            pf: pf,
-        };
-    }
-    let z = postfilter::formant_agc_subframe(pf, a, out);
-    let heard = z.out;
-    let kept = z.pf;
-    write_samples(part, heard);
-    Filters {
-        syn_mem: after,
-        pf: kept,
-    }
-}
-
-// Each subframe writes only its sixty samples.
-fn output_frame(
-    samples: &mut [i16],
-    on: bool,
-    sets: [[i16; 10]; 4],
-    inputs: [[i32; 60]; 4],
-    f: Filters,
-) -> Filters
-    requires { ⌜ length (now samples) ≡ 240 ⌝ }
-    ensures memories { λ r. ⌜ r ≡ filtersAt on sets inputs f 4 ⌝ }
-    ensures samples { λ r. ⌜ now (samples .exit) ≡ frameHeard on sets inputs f ⌝ }
-{
-    let mut g = f;
-    let mut s: usize = 0;
-    while s < 4 {
-        let a = sets[s];
-        let x = inputs[s];
-        let at = 60 * s;
-        let after = output_subframe(&mut samples[at..at + 60], on, a, x, g);
-        g = after;
-        s += 1;
-    }
-    g
 }
 
 // The tail that the classifier of erased frames reads (record_pcm_history).
@@ -174,7 +103,7 @@ fn finish_frame(
         syn_mem: mem,
         pf: pf,
     };
-    let f = output_frame(samples, given.postfilter, sets, inputs, before);
+    let f = output::output_frame(samples, given.postfilter, sets, inputs, before);
     let tail = pcm_history(&samples[120..240]);
     let history = state::history_after(&signal);
     let narrow = f.syn_mem;

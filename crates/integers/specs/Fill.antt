@@ -46,6 +46,10 @@ module _ {ℓ} {A : Type ℓ} where
   take-tabulate d l zero h = refl
   take-tabulate d l (suc n) h = take-suc l n d h ∙ ap (λ (r : List A). r ++ (getD l n d ∷ [])) (take-tabulate d l n (omega arith))
 
+  -- what is read from a list of n is the list
+  pub entries-all : (d : A) (l : List A) (n : ℕ) → length l ≡ n → tabulate (λ i. getD l i d) n ≡ l
+  entries-all d l n e = sym (take-tabulate d l n (omega arith)) ∙ take-all n l (omega arith)
+
 -- ---- an array of N: start, a turn that stores f i at i, and the end
 
 module _ {ℓ} {A : Type ℓ} where

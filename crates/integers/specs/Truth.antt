@@ -60,6 +60,15 @@ cond-here p q e h = ap (λ (t : Bool). cond t p q) (sym h ∙ e)
 pub cond-there : {A : Type 0} {x a : Bool} (p : A) {q r : A} → x ≡ a → x ≡ false → r ≡ q → r ≡ cond a p q
 cond-there p {q} e h k = k ∙ ap (λ (t : Bool). cond t p q) (sym h ∙ e)
 
+-- by a test that code takes negated
+pub choice-off {ℓ} : {A : Type ℓ} (b : Bool) (x y : A) → not b ≡ true → y ≡ cond b x y
+choice-off true x y h = ap (λ (t : Bool). cond t y x) (sym h)
+choice-off false x y h = refl
+
+pub choice-on {ℓ} : {A : Type ℓ} (b : Bool) (x y : A) → not b ≡ false → x ≡ cond b x y
+choice-on true x y h = refl
+choice-on false x y h = ap (λ (t : Bool). cond t x y) h
+
 -- where f holds of the choice and not of the first arm
 pub cond-passed : {A : Type 0} (f : A → Bool) (a : Bool) (p q : A) → f p ≡ false → f (cond a p q) ≡ true → (a ≡ false) × (f q ≡ true)
 cond-passed f true p q e h = clash h e

@@ -15,13 +15,12 @@ use Rattle.integers.specs.Natural.{le-or-lt}
 use Rattle.integers.specs.Signed.{zero-fits}
 use Rattle.integers.specs.Linear.{line, line-fits, fits-between}
 use Rattle.integers.specs.Saturation.{saturated-same}
-use Rattle.integers.specs.Fill.{tabulate-ext}
+use Rattle.integers.specs.Fill.{tabulate-ext, entries-all}
 use Rattle.tables.specs.Constants.{pitchMin, agcMax, lastLagMin, lastLagMax, lastBaseLagMax, unvoicedGainMax}
 use Rattle.basicop.specs.Operators.{word16}
 use Rattle.state.specs.declared.State.{State}
 use Rattle.state.specs.State.{freshState, between, allTo, areWords, numbersInBounds, inBounds}
 use Rattle.state.specs.State.{frameSignal, narrowed}
-use Rattle.state.proofs.Fill.{entries-all}
 use Rattle.integers.specs.Truth.{both}
 use Rattle.state.proofs.Tests.{between-in, between-out, all-at, all-from}
 
@@ -135,7 +134,7 @@ signal-narrowed s e h = tabulate-ext (λ i. word16 (entry x i)) (entry x) 386 (�
     within i q = word-narrowed (entry x i) (words-at x 146 (words-of s h .0) i q)
 
 pub memory-narrowed : (s : State) → length (s .«syn_mem») ≡ 10 → inBounds s ≡ true → narrowed (s .«syn_mem») 10 ≡ s .«syn_mem»
-memory-narrowed s e h = words-narrowed (s .«syn_mem») 10 (words-of s h .1) ∙ entries-all (s .«syn_mem») 10 e
+memory-narrowed s e h = words-narrowed (s .«syn_mem») 10 (words-of s h .1) ∙ entries-all (pos 0) (s .«syn_mem») 10 e
 
 -- ---- a fresh state
 

@@ -5,14 +5,9 @@ use Prim.Native.Nat.{ℕ, zero, suc, _+_, _-_, _≤_, _<_}
 use native.Mathlib.Numerals.{add-one}
 use native.Mathlib.Omega.{arith}
 use lib.ListN.{length, drop, getD}
-use lib.Seq.{drop-cons, append-snoc, take-all}
-use lib.IntN.{ℤ, pos}
-use Rattle.integers.specs.Base.{entry, tabulate}
-use Rattle.integers.specs.Fill.{tabulate-step, take-tabulate, rest-end}
-
--- what is read from a list of n is the list
-pub entries-all : (xs : List ℤ) (n : ℕ) → length xs ≡ n → tabulate (entry xs) n ≡ xs
-entries-all xs n e = sym (take-tabulate (pos 0) xs n (omega arith)) ∙ take-all n xs (omega arith)
+use lib.Seq.{drop-cons, append-snoc}
+use Rattle.integers.specs.Base.{tabulate}
+use Rattle.integers.specs.Fill.{tabulate-step, rest-end}
 
 module _ {ℓ} {A : Type ℓ} (f : ℕ → A) (o : List A) (d : A) where
   -- the places from k on are f's

@@ -7,8 +7,8 @@ use lib.IntN.{ℤ, pos}
 use lib.Signed.{_≤ℤ_}
 use Rattle.postfilter.specs.declared.Postfilter.{Postfilter}
 use Rattle.postfilter.proofs.Bounds.{memory-gain}
-use Rattle.decoder.specs.Frame.{synthesisOf, filtersAfter, filtersAt}
-use Rattle.decoder.specs.declared.Filters.{Filters}
+use Rattle.output.specs.Output.{synthesisOf, filtersAfter, filtersAt}
+use Rattle.output.specs.declared.Filters.{Filters}
 
 abbrev GainIn : Postfilter → Type 0
 GainIn m = (pos 0 ≤ℤ m .«agc_gain_q12») × (m .«agc_gain_q12» ≤ℤ pos 1048576)

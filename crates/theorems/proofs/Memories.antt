@@ -12,8 +12,8 @@ use Rattle.synthesis.specs.Synthesis.{samples, synthesised, memoryAfter}
 use Rattle.synthesis.proofs.Samples.{samples-step, samples-last}
 use Rattle.state.specs.State.{areWords}
 use Rattle.state.proofs.Bounds.{words-from}
-use Rattle.decoder.specs.Frame.{filtersAfter, filtersAt}
-use Rattle.decoder.specs.declared.Filters.{Filters}
+use Rattle.output.specs.Output.{filtersAfter, filtersAt}
+use Rattle.output.specs.declared.Filters.{Filters}
 use Rattle.theorems.proofs.Words.{word-fits, tabulate-fits}
 
 module _ (a x memory : List ℤ) where

@@ -8,7 +8,10 @@ use mir.Syntax.{w32}
 use Rattle.integers.specs.Signed.{read-back}
 use Rattle.lpc.specs.Lpc.{frameCoefficients}
 use Rattle.state.proofs.Bounds.{memory-narrowed}
-use Rattle.decoder.specs.Frame.{filtersAt, heardTo, frameSamples, filtersLast, frameState}
+use Rattle.output.specs.Output.{frameHeard, frameFilters}
+use Rattle.output.specs.declared.Filters.{Filters}
+use Rattle.output.proofs.Frames.{filters-in, heard-in}
+use Rattle.decoder.specs.Frame.{frameSamples, filtersLast, frameState}
 use Rattle.decoder.proofs.Fields.{field-length}
 use Rattle.decoder.proofs.finish_frame.Statement.{statement}
 use Rattle.decoder.proofs.finish_frame.Tie as tie
@@ -20,7 +23,7 @@ narrow-memory-requires : tie.Need-narrow-memory-requires
 narrow-memory-requires c κs = tt
 
 output-frame-requires : tie.Need-output-frame-requires
-output-frame-requires c κs = c .before .before .before .before .before .before .pre .0
+output-frame-requires c κs = tt
 
 -- ---- what is heard, and the memories after it
 
@@ -47,19 +50,27 @@ module _ (c : tie.After-output-frame) where
       memory .before .before .frame-lpc-q13 .result ≡ frameCoefficients (a .given .«prev_lsp») (a .lsps)
   sets-is = memory .before .before .frame-lpc-q13 .ensures
 
+  abbrev sets : List (List ℤ)
+  sets = memory .before .before .frame-lpc-q13 .result
+
+  abbrev before : Filters
+  before = record { «syn_mem» = memory .narrow-memory .result; pf = start .args .given .pf }
+
   heard-is : let a = start .args in heard ≡ frameSamples (a .given) (a .lsps) (a .t4) (a .inputs) (a .last)
   heard-is =
       let a = start .args in
       let g = a .given in
       c .output-frame .ensures .1
-      ∙ (λ i. heardTo (g .postfilter) (sets-is i) (a .inputs) record { «syn_mem» = memory-is i; pf = g .pf } 4)
+      ∙ heard-in (g .postfilter) sets (a .inputs) before (a .samples .now) (start .pre .0)
+      ∙ (λ i. frameHeard (g .postfilter) (sets-is i) (a .inputs) record { «syn_mem» = memory-is i; pf = g .pf })
 
   filters-is : let a = start .args in c .output-frame .result ≡ filtersLast (a .given) (a .lsps) (a .t4) (a .inputs) (a .last)
   filters-is =
       let a = start .args in
       let g = a .given in
       c .output-frame .ensures .0
-      ∙ (λ i. filtersAt (g .postfilter) (sets-is i) (a .inputs) record { «syn_mem» = memory-is i; pf = g .pf } 4)
+      ∙ filters-in (g .postfilter) sets (a .inputs) before (a .samples .now) (start .pre .0)
+      ∙ (λ i. frameFilters (g .postfilter) (sets-is i) (a .inputs) record { «syn_mem» = memory-is i; pf = g .pf })
 
 sub-pcm-history : tie.Need-sub-pcm-history
 sub-pcm-history c = omega arith

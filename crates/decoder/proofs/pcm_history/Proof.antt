@@ -1,11 +1,11 @@
 use mathlib.Core.Path.{refl, _∙_}
 use Prim.Native.Nat.{_-_}
 use native.Mathlib.Omega.{arith}
+use lib.IntN.{pos}
 use mir.Syntax.{w16}
 use Rattle.integers.specs.Base.{entry, Fills}
 use Rattle.integers.specs.Signed.{read-back}
-use Rattle.integers.specs.Fill.{fills-start, fills-next, fills-end}
-use Rattle.state.proofs.Fill.{entries-all}
+use Rattle.integers.specs.Fill.{fills-start, fills-next, fills-end, entries-all}
 use Rattle.decoder.proofs.pcm_history.Statement.{statement}
 use Rattle.decoder.proofs.pcm_history.Tie as tie
 
@@ -45,7 +45,7 @@ loop-again c =
 returns : tie.Need-returns Inv-loop μ-loop
 returns c =
     let s = c .before .before in
-    fills-end (c .before .loop .inv) (omega arith) ∙ entries-all (s .args .tail .now) 120 (s .pre)
+    fills-end (c .before .loop .inv) (omega arith) ∙ entries-all (pos 0) (s .args .tail .now) 120 (s .pre)
 
 pub pcm-history-spec : {M : Type 1} → statement M
 pcm-history-spec =

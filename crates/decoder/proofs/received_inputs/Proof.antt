@@ -11,7 +11,7 @@ use Rattle.excitation.specs.declared.Subframe.{Subframe}
 use Rattle.excitation.specs.declared.Subframe.the-variants.{Zero, One, Two, Three}
 use Rattle.pitch.specs.Pitch.{postfiltered}
 use Rattle.decoder.specs.Frame.{plainInputs, pitchInputs}
-use Rattle.decoder.proofs.Subframes.{choice-off, choice-on}
+use Rattle.integers.specs.Truth.{choice-off, choice-on}
 use Rattle.decoder.proofs.received_inputs.Statement.{statement}
 use Rattle.decoder.proofs.received_inputs.Tie as tie
 

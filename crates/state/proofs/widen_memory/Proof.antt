@@ -1,12 +1,12 @@
 use mathlib.Core.Path.{refl, _∙_}
 use Prim.Native.Nat.{_-_}
 use native.Mathlib.Omega.{arith}
+use lib.IntN.{pos}
 use mir.Syntax.{w16}
 use Rattle.integers.specs.Base.{entry, AllFit, Fills}
 use Rattle.integers.specs.Signed.{widen, all-fit}
 use Rattle.integers.specs.Expression.{is-arg, is-cast, need-cast}
-use Rattle.integers.specs.Fill.{fills-start, fills-next, fills-end}
-use Rattle.state.proofs.Fill.{entries-all}
+use Rattle.integers.specs.Fill.{fills-start, fills-next, fills-end, entries-all}
 use Rattle.state.proofs.widen_memory.Statement.{statement}
 use Rattle.state.proofs.widen_memory.Tie as tie
 
@@ -52,7 +52,7 @@ loop-again c =
 returns : tie.Need-returns Inv-loop μ-loop
 returns c =
     let s = c .before .before in
-    fills-end (c .before .loop .inv) (omega arith) ∙ entries-all (s .args .t1) 10 (s .good .0 .1 .0 .1)
+    fills-end (c .before .loop .inv) (omega arith) ∙ entries-all (pos 0) (s .args .t1) 10 (s .good .0 .1 .0 .1)
 
 pub widen-memory-spec : {M : Type 1} → statement M
 widen-memory-spec =

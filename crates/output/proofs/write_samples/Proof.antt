@@ -1,13 +1,13 @@
 use mathlib.Core.Path.{sym, _∙_}
 use Prim.Native.Nat.{_-_}
 use native.Mathlib.Omega.{arith}
+use lib.IntN.{pos}
 use mir.Syntax.{w16}
 use Rattle.integers.specs.Base.{entry, Fills}
 use Rattle.integers.specs.Signed.{read-back}
-use Rattle.integers.specs.Fill.{fills-start, fills-next, fills-end}
-use Rattle.state.proofs.Fill.{entries-all}
-use Rattle.decoder.proofs.write_samples.Statement.{statement}
-use Rattle.decoder.proofs.write_samples.Tie as tie
+use Rattle.integers.specs.Fill.{fills-start, fills-next, fills-end, entries-all}
+use Rattle.output.proofs.write_samples.Statement.{statement}
+use Rattle.output.proofs.write_samples.Tie as tie
 
 abbrev Inv-loop : tie.InvT-loop
 Inv-loop part₀ out n₀ part n = Fills (entry out) 60 part n
@@ -48,7 +48,7 @@ same-length c = c .before .loop .inv .len ∙ sym (c .before .before .pre)
 returns : tie.Need-returns Inv-loop μ-loop
 returns c =
     let s = c .before .before in
-    fills-end (c .before .loop .inv) (omega arith) ∙ entries-all (s .args .t2) 60 (s .good .1 .0 .1 .0 .1)
+    fills-end (c .before .loop .inv) (omega arith) ∙ entries-all (pos 0) (s .args .t2) 60 (s .good .1 .0 .1 .0 .1)
 
 pub write-samples-spec : {M : Type 1} → statement M
 write-samples-spec =

@@ -4,11 +4,11 @@ use Prim.Native.Nat.{_+_, _-_, _*_, _≤_}
 use native.Mathlib.Omega.{arith}
 use borrow.Rule.Slice.PartMut.{putMid}
 use lib.ListN.{length, getD, length-take, length-drop}
-use Rattle.decoder.specs.Frame.{filtersAfter, subframeHeard, filtersAt}
-use Rattle.decoder.proofs.Frames.{filters-zero, filters-step}
-use Rattle.decoder.proofs.Frames.{written, written-start, written-next, written-length, written-end}
-use Rattle.decoder.proofs.output_frame.Statement.{statement}
-use Rattle.decoder.proofs.output_frame.Tie as tie
+use Rattle.output.specs.Output.{filtersAfter, subframeHeard, filtersAt}
+use Rattle.output.proofs.Frames.{filters-zero, filters-step}
+use Rattle.output.proofs.Frames.{written, written-start, written-next, written-length, written-end}
+use Rattle.output.proofs.output_subframes.Statement.{statement}
+use Rattle.output.proofs.output_subframes.Tie as tie
 
 abbrev Inv-loop : tie.InvT-loop
 Inv-loop samples₀ on sets inputs g₀ s₀ samples g s =
@@ -99,8 +99,8 @@ returns c =
       v .1 ∙ written-end (a .on) (a .t3) (a .t4) (a .f) (a .samples .now) (c .before .loop .s) (c .before .before .pre) e,
     )
 
-pub output-frame-spec : {M : Type 1} → statement M
-output-frame-spec =
+pub output-subframes-spec : {M : Type 1} → statement M
+output-subframes-spec =
     tie.close
     (tie.spec
     Inv-loop

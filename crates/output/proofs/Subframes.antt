@@ -1,26 +1,17 @@
 -- The output step of a subframe, with the postfilter off and on.
-use mathlib.Core.Path.{_≡_, refl, sym, ap}
-use mathlib.Core.Bool.{Bool, true, false, not, cond}
+use mathlib.Core.Path.{_≡_}
+use mathlib.Core.Bool.{Bool, true, false, not}
 use mathlib.Core.List.{List}
 use lib.ListN.{length}
 use lib.IntN.{ℤ}
 use Rattle.integers.specs.Natural.{cond-elim}
+use Rattle.integers.specs.Truth.{choice-off, choice-on}
 use Rattle.integers.specs.Fill.{tabulate-length}
 use Rattle.synthesis.specs.Synthesis.{synthesised, memoryAfter}
 use Rattle.postfilter.specs.Postfilter.{filtered, postfilterAfter, gained}
 use Rattle.postfilter.specs.declared.Postfilter.{Postfilter}
-use Rattle.decoder.specs.Frame.{synthesisOf, subframeHeard, filtersAfter}
-use Rattle.decoder.specs.declared.Filters.{Filters}
-
--- ---- a choice, by a test that code takes negated
-
-pub choice-off {ℓ} : {A : Type ℓ} (b : Bool) (x y : A) → not b ≡ true → y ≡ cond b x y
-choice-off true x y h = ap (λ (t : Bool). cond t y x) (sym h)
-choice-off false x y h = refl
-
-pub choice-on {ℓ} : {A : Type ℓ} (b : Bool) (x y : A) → not b ≡ false → x ≡ cond b x y
-choice-on true x y h = refl
-choice-on false x y h = ap (λ (t : Bool). cond t x y) h
+use Rattle.output.specs.Output.{synthesisOf, subframeHeard, filtersAfter}
+use Rattle.output.specs.declared.Filters.{Filters}
 
 module _ (on : Bool) (a x : List ℤ) (f : Filters) where
   -- ---- what is heard

@@ -1,8 +1,8 @@
 use mathlib.Core.Path.{_∙_, ap}
 use Rattle.postfilter.specs.Postfilter.{filtered, postfilterAfter}
-use Rattle.decoder.proofs.Subframes.{heard-off, heard-on, memories-off, memories-on}
-use Rattle.decoder.proofs.output_subframe.Statement.{statement}
-use Rattle.decoder.proofs.output_subframe.Tie as tie
+use Rattle.output.proofs.Subframes.{heard-off, heard-on, memories-off, memories-on}
+use Rattle.output.proofs.output_subframe.Statement.{statement}
+use Rattle.output.proofs.output_subframe.Tie as tie
 
 -- ---- from the test back to the synthesis and to the start
 

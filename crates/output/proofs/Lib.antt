@@ -1,0 +1,2 @@
+pub mod Subframes
+pub mod Frames

@@ -1,0 +1,93 @@
+// What is heard of a frame, into the samples that are lent (the Rust's decode_params and decode_erased, qdec.rs).
+ghost use mathlib.Core.Path.{_≡_};
+ghost use lib.ListN.{length};
+ghost use Rattle.output.specs.Output.{subframeHeard, filtersAfter, frameHeard, frameFilters, heardIn, filtersIn};
+use postfilter::Postfilter;
+
+// The memories that the subframes hand on.
+pub struct Filters {
+    pub syn_mem: [i16; 10],
+    pub pf: Postfilter,
+}
+
+// The part that is lent becomes the subframe.
+fn write_samples(part: &mut [i16], out: [i16; 60])
+    requires { ⌜ length (now part) ≡ 60 ⌝ }
+    ensures { λ r. ⌜ now (part .exit) ≡ out ⌝ }
+{
+    let mut n: usize = 0;
+    while n < 60 {
+        part[n] = out[n];
+        n += 1;
+    }
+}
+
+// The output step of a subframe: its sixty samples into the part that is lent, and the memories after it.
+fn output_subframe(part: &mut [i16], on: bool, a: [i16; 10], x: [i32; 60], f: Filters) -> Filters
+    requires { ⌜ length (now part) ≡ 60 ⌝ }
+    ensures memories { λ r. ⌜ r ≡ filtersAfter on a x f ⌝ }
+    ensures samples { λ r. ⌜ now (part .exit) ≡ subframeHeard on a x f ⌝ }
+{
+    let mem = f.syn_mem;
+    let y = synthesis::synthesis_subframe(a, &x, mem);
+    let out = y.out;
+    let after = y.mem;
+    let pf = f.pf;
+    if !on {
+        write_samples(part, out);
+        return Filters {
+            syn_mem: after,
+            pf: pf,
+        };
+    }
+    let z = postfilter::formant_agc_subframe(pf, a, out);
+    let heard = z.out;
+    let kept = z.pf;
+    write_samples(part, heard);
+    Filters {
+        syn_mem: after,
+        pf: kept,
+    }
+}
+
+// Each subframe writes only its sixty samples.
+fn output_subframes(
+    samples: &mut [i16],
+    on: bool,
+    sets: [[i16; 10]; 4],
+    inputs: [[i32; 60]; 4],
+    f: Filters,
+) -> Filters
+    requires { ⌜ length (now samples) ≡ 240 ⌝ }
+    ensures memories { λ r. ⌜ r ≡ frameFilters on sets inputs f ⌝ }
+    ensures samples { λ r. ⌜ now (samples .exit) ≡ frameHeard on sets inputs f ⌝ }
+{
+    let mut g = f;
+    let mut s: usize = 0;
+    while s < 4 {
+        let a = sets[s];
+        let x = inputs[s];
+        let at = 60 * s;
+        let after = output_subframe(&mut samples[at..at + 60], on, a, x, g);
+        g = after;
+        s += 1;
+    }
+    g
+}
+
+// All 240 samples, and the memories after the frame.
+pub fn output_frame(
+    samples: &mut [i16],
+    on: bool,
+    sets: [[i16; 10]; 4],
+    inputs: [[i32; 60]; 4],
+    f: Filters,
+) -> Filters
+    ensures memories { λ r. ⌜ r ≡ filtersIn on sets inputs f (now (samples .entry)) ⌝ }
+    ensures samples { λ r. ⌜ now (samples .exit) ≡ heardIn on sets inputs f (now (samples .entry)) ⌝ }
+{
+    if samples.len() != 240 {
+        return f;
+    }
+    output_subframes(samples, on, sets, inputs, f)
+}
