@@ -1,5 +1,5 @@
--- The ways out of the decoder: what was examined, and the answer and the samples that follow from it.
-use mathlib.Core.Path.{_≡_, sym, ap, _∙_}
+-- The ways out of the decoder: what was examined, and the answer, number and samples that follow from it.
+use mathlib.Core.Path.{_≡_, refl, sym, ap, _∙_}
 use mathlib.Core.Bool.{Bool, true, false, not, cond}
 use mathlib.Core.List.{List}
 use Prim.Native.Nat.{ℕ}
@@ -8,7 +8,7 @@ use lib.Dec.{eqb}
 use lib.ListN.{length}
 use lib.IntN.{ℤ}
 use Rattle.pitch.specs.declared.Rate.the-variants as rates
-use Rattle.refusals.specs.Refusals.{found}
+use Rattle.refusals.specs.Refusals.{numberOf, found}
 use Rattle.refusals.specs.declared.Refusal.{Refusal}
 use Rattle.refusals.specs.declared.Refusal.the-variants.{SampleLength, StateBounds}
 use Rattle.refusals.specs.declared.Found.{Found}
@@ -16,7 +16,7 @@ use Rattle.refusals.specs.declared.Found.the-variants.{Erased, High, Low, Refus
 use Rattle.state.specs.State.{inBounds}
 use Rattle.state.specs.declared.State.{State}
 use Rattle.decoder.specs.Frame.{erasedSamples, erasedState, receivedSamples, receivedState}
-use Rattle.decoder.specs.Decoder.{examined, refusal, acceptance, answerTo, samplesTo, answerOf, samplesOf}
+use Rattle.decoder.specs.Decoder.{examined, refusal, acceptance, answerTo, numberTo, samplesTo, answerOf, firstNumber, samplesOf}
 use Rattle.decoder.specs.declared.Answer.{Answer}
 
 module _ (s : State) (r : List ℕ) (samples : List ℤ) where
@@ -37,29 +37,46 @@ module _ (s : State) (r : List ℕ) (samples : List ℤ) where
   pub record-found : length samples ≡ 240 → inBounds s ≡ true → {k : Found} → found r ≡ k → examined s r samples ≡ k
   record-found h g e = examined-by true true (eq-eqb (length samples) 240 h) g ∙ e
 
-  -- ---- the answer and the samples
+  -- ---- what follows, of an answer a and samples o
 
-  -- a and o are those that k gives
-  abbrev pub Gives : Answer → List ℤ → Type 0
-  Gives a o = (a ≡ answerOf s r samples) × (o ≡ samplesOf s r samples)
+  abbrev pub Promised : Answer → List ℤ → Type 0
+  Promised a o =
+      (a ≡ answerOf s r samples)
+      × ((numberOf (a .verdict) ≡ firstNumber s r samples) × (o ≡ samplesOf s r samples))
 
-  gives : (k : Found) → examined s r samples ≡ k → Gives (answerTo k s r) (samplesTo k s r samples)
-  gives k e = (sym (ap (λ (x : Found). answerTo x s r) e), sym (ap (λ (x : Found). samplesTo x s r samples) e))
+  number-to : (k : Found) → numberOf (answerTo k s r .verdict) ≡ numberTo k
+  unfolding answerTo
+  number-to (Refused n) = refl
+  number-to Erased = refl
+  number-to High = refl
+  number-to Low = refl
 
-  pub refused-gives : (n : Refusal) → examined s r samples ≡ Refused n → Gives (refusal s n) samples
+  promised : (k : Found) → examined s r samples ≡ k → {a : Answer} {o : List ℤ} →
+      a ≡ answerTo k s r → o ≡ samplesTo k s r samples → Promised a o
+  promised k e p q = (
+    p ∙ sym (ap (λ (x : Found). answerTo x s r) e),
+    (
+      ap (λ (x : Answer). numberOf (x .verdict)) p ∙ number-to k ∙ sym (ap numberTo e),
+      q ∙ sym (ap (λ (x : Found). samplesTo x s r samples) e),
+    ),
+  )
+
+  pub refused-promised : (n : Refusal) → examined s r samples ≡ Refused n → {a : Answer} →
+      a ≡ refusal s n → Promised a samples
   unfolding answerTo samplesTo
-  refused-gives n e = gives (Refused n) e
+  refused-promised n e p = promised (Refused n) e p refl
 
-  pub erased-gives : examined s r samples ≡ Erased → Gives (acceptance (erasedState s)) (erasedSamples s)
+  pub erased-promised : examined s r samples ≡ Erased → {a : Answer} {o : List ℤ} →
+      a ≡ acceptance (erasedState s) → o ≡ erasedSamples s → Promised a o
   unfolding answerTo samplesTo
-  erased-gives e = gives Erased e
+  erased-promised e p q = promised Erased e p q
 
-  pub high-gives : examined s r samples ≡ High →
-      Gives (acceptance (receivedState s rates.High r)) (receivedSamples s rates.High r)
+  pub high-promised : examined s r samples ≡ High → {a : Answer} {o : List ℤ} →
+      a ≡ acceptance (receivedState s rates.High r) → o ≡ receivedSamples s rates.High r → Promised a o
   unfolding answerTo samplesTo
-  high-gives e = gives High e
+  high-promised e p q = promised High e p q
 
-  pub low-gives : examined s r samples ≡ Low →
-      Gives (acceptance (receivedState s rates.Low r)) (receivedSamples s rates.Low r)
+  pub low-promised : examined s r samples ≡ Low → {a : Answer} {o : List ℤ} →
+      a ≡ acceptance (receivedState s rates.Low r) → o ≡ receivedSamples s rates.Low r → Promised a o
   unfolding answerTo samplesTo
-  low-gives e = gives Low e
+  low-promised e p q = promised Low e p q

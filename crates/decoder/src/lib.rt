@@ -4,9 +4,10 @@ ghost use mathlib.Core.Bool.{true, cond};
 ghost use lib.ListN.{length};
 ghost use Rattle.integers.specs.Base.{entry};
 ghost use Rattle.record.specs.Record.{number};
+ghost use Rattle.refusals.specs.Refusals.{numberOf};
 ghost use Rattle.state.specs.State.{inBounds};
 ghost use Rattle.decoder.specs.Frame.{plainInputs, pitchInputs, receivedTo, frameSamples, frameState, erasedSamples, erasedState, receivedSamples, receivedState};
-ghost use Rattle.decoder.specs.Decoder.{refusal, acceptance, answerOf, samplesOf};
+ghost use Rattle.decoder.specs.Decoder.{refusal, acceptance, answerOf, firstNumber, samplesOf};
 use excitation::Subframe;
 use output::Filters;
 use pitch::Rate;
@@ -207,6 +208,7 @@ fn accepted(next: State) -> Answer
 // Nothing is written before the last test.
 pub fn decode(given: State, record: &[u8], samples: &mut [i16]) -> Answer
     ensures answer { λ r. ⌜ r ≡ answerOf given (now («record» .entry)) (now (samples .entry)) ⌝ }
+    ensures number { λ r. ⌜ numberOf (r .verdict) ≡ firstNumber given (now («record» .entry)) (now (samples .entry)) ⌝ }
     ensures samples { λ r. ⌜ now (samples .exit) ≡ samplesOf given (now («record» .entry)) (now (samples .entry)) ⌝ }
 {
     if samples.len() != 240 {

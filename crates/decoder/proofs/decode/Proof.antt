@@ -8,7 +8,7 @@ use Rattle.state.specs.State.{inBounds}
 use Rattle.integers.specs.Truth.{not-true, not-false}
 use Rattle.decoder.specs.Decoder.{examined, acceptance}
 use Rattle.decoder.proofs.Answers.{length-refused, bounds-refused, record-found}
-use Rattle.decoder.proofs.Answers.{refused-gives, erased-gives, high-gives, low-gives}
+use Rattle.decoder.proofs.Answers.{refused-promised, erased-promised, high-promised, low-promised}
 use Rattle.decoder.proofs.decode.Statement.{statement}
 use Rattle.decoder.proofs.decode.Tie as tie
 
@@ -40,8 +40,7 @@ returns c =
     let a = t .before .before .args in
     let r = a .«record» .now in
     let x = a .samples .now in
-    let g = refused-gives (a .given) r x SampleLength (length-refused (a .given) r x (t .if1 .taken)) in
-    (c .refused .ensures ∙ g .0, g .1)
+    refused-promised (a .given) r x SampleLength (length-refused (a .given) r x (t .if1 .taken)) (c .refused .ensures)
 
 in-bounds-requires : tie.Need-in-bounds-requires
 in-bounds-requires c κs = tt
@@ -58,8 +57,8 @@ returns-2 c =
     let r = a .«record» .now in
     let x = a .samples .now in
     let unsound = sym (b .ensures) ∙ not-true {b = b .result} (t .if2 .taken) in
-    let g = refused-gives (a .given) r x StateBounds (bounds-refused (a .given) r x (l .if1 .left) unsound) in
-    (c .refused2 .ensures ∙ g .0, g .1)
+    let found = bounds-refused (a .given) r x (l .if1 .left) unsound in
+    refused-promised (a .given) r x StateBounds found (c .refused2 .ensures)
 
 examine-requires : tie.Need-examine-requires
 examine-requires c κs = tt
@@ -102,8 +101,8 @@ returns-3 c =
     let n = c .before .before in
     let e = n .before .before in
     let a = start e .args in
-    let g = refused-gives (a .given) (a .«record» .now) (a .samples .now) (n .n .given .0 .0) (found-is e (n .n .given .1)) in
-    (c .refused3 .ensures ∙ g .0, g .1)
+    let found = found-is e (n .n .given .1) in
+    refused-promised (a .given) (a .«record» .now) (a .samples .now) (n .n .given .0 .0) found (c .refused3 .ensures)
 
 same-length : tie.Need-same-length
 same-length c = c .before .before .decode-erased .kept .0
@@ -114,10 +113,8 @@ returns-4 c =
     let t = d .before .before in
     let e = t .before .before in
     let a = start e .args in
-    let g = erased-gives (a .given) (a .«record» .now) (a .samples .now) (found-is e (t .enum-told .given .1)) in (
-      c .accepted .ensures ∙ ap acceptance (d .decode-erased .ensures .0) ∙ g .0,
-      d .decode-erased .ensures .1 ∙ g .1,
-    )
+    erased-promised (a .given) (a .«record» .now) (a .samples .now) (found-is e (t .enum-told .given .1))
+    (c .accepted .ensures ∙ ap acceptance (d .decode-erased .ensures .0)) (d .decode-erased .ensures .1)
 
 same-length-2 : tie.Need-same-length-2
 same-length-2 c = c .before .before .decode-received .kept .0
@@ -128,10 +125,8 @@ returns-5 c =
     let t = d .before .before in
     let e = t .before .before in
     let a = start e .args in
-    let g = high-gives (a .given) (a .«record» .now) (a .samples .now) (found-is e (t .enum-told2 .given .1)) in (
-      c .accepted2 .ensures ∙ ap acceptance (d .decode-received .ensures .0) ∙ g .0,
-      d .decode-received .ensures .1 ∙ g .1,
-    )
+    high-promised (a .given) (a .«record» .now) (a .samples .now) (found-is e (t .enum-told2 .given .1))
+    (c .accepted2 .ensures ∙ ap acceptance (d .decode-received .ensures .0)) (d .decode-received .ensures .1)
 
 same-length-3 : tie.Need-same-length-3
 same-length-3 c = c .before .before .decode-received2 .kept .0
@@ -142,10 +137,8 @@ returns-6 c =
     let t = d .before .before in
     let e = t .before .before in
     let a = start e .args in
-    let g = low-gives (a .given) (a .«record» .now) (a .samples .now) (found-is e (t .enum-told3 .given .1)) in (
-      c .accepted3 .ensures ∙ ap acceptance (d .decode-received2 .ensures .0) ∙ g .0,
-      d .decode-received2 .ensures .1 ∙ g .1,
-    )
+    low-promised (a .given) (a .«record» .now) (a .samples .now) (found-is e (t .enum-told3 .given .1))
+    (c .accepted3 .ensures ∙ ap acceptance (d .decode-received2 .ensures .0)) (d .decode-received2 .ensures .1)
 
 pub decode-spec : {M : Type 1} → statement M
 decode-spec =
