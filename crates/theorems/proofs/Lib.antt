@@ -1,5 +1,6 @@
 pub mod Bounds
 pub mod Choice
+pub mod Descriptions
 pub mod Examined
 pub mod Gains
 pub mod Histories

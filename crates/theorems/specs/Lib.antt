@@ -2,5 +2,6 @@ pub mod Call
 pub mod Bounds
 pub mod Refused
 pub mod Choice
+pub mod Descriptions
 pub mod LastLag
 pub mod Values
