@@ -1,8 +1,8 @@
 use mathlib.Core.Path.{sym, ap}
 use borrow.Author.Needs.{needs}
-use Rattle.pulses.specs.Pulses.{limit}
-use Rattle.pulses.proofs.max_position.Statement.{statement}
-use Rattle.pulses.proofs.max_position.Tie as tie
+use Rattle.positions.specs.Positions.{limit}
+use Rattle.positions.proofs.max_position.Statement.{statement}
+use Rattle.positions.proofs.max_position.Tie as tie
 
 enum-told : tie.Need-enum-told
 enum-told c = search needs

@@ -4,8 +4,8 @@ use Prim.Native.Nat.{ℕ, _+_, _-_, _*_}
 use native.Mathlib.Omega.{arith}
 use lib.ListN.{getD}
 use Rattle.tables.specs.Rules.{choose, weight-rule}
-use Rattle.pulses.proofs.comb_weight.Statement.{statement}
-use Rattle.pulses.proofs.comb_weight.Tie as tie
+use Rattle.positions.proofs.comb_weight.Statement.{statement}
+use Rattle.positions.proofs.comb_weight.Tie as tie
 
 sub-result : tie.Need-sub-result
 sub-result c = omega arith

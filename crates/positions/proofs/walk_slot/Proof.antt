@@ -1,10 +1,10 @@
 use mathlib.Core.Path.{_≡_, sym, ap, _∙_}
 use Prim.Native.Nat.{ℕ, _+_, _-_, _<_}
 use native.Mathlib.Omega.{arith}
-use Rattle.pulses.specs.Pulses.{walk, bits}
-use Rattle.pulses.proofs.Bits.{double, bit-set, bits-done, bits-hit, bits-miss}
-use Rattle.pulses.proofs.walk_slot.Statement.{statement}
-use Rattle.pulses.proofs.walk_slot.Tie as tie
+use Rattle.positions.specs.Positions.{walk, bits}
+use Rattle.positions.proofs.Bits.{double, bit-set, bits-done, bits-hit, bits-miss}
+use Rattle.positions.proofs.walk_slot.Statement.{statement}
+use Rattle.positions.proofs.walk_slot.Tie as tie
 
 returns : tie.Need-returns
 returns c =

@@ -2,11 +2,11 @@ use mathlib.Core.Path.{_≡_, sym, ap, _∙_}
 use Prim.Native.Nat.{ℕ, _+_, _-_, _^_, _≤_, _<_}
 use native.Mathlib.Nat.{zero-add}
 use native.Mathlib.Omega.{arith}
-use Rattle.pulses.specs.Pulses.{walk, bits}
-use Rattle.pulses.specs.declared.Slots.the-variants.{Of}
-use Rattle.pulses.proofs.Bits.{bits-end, pulses-few, positions-of, positions-none}
-use Rattle.pulses.proofs.fcbk_unpk_positions.Statement.{statement}
-use Rattle.pulses.proofs.fcbk_unpk_positions.Tie as tie
+use Rattle.positions.specs.Positions.{walk, bits}
+use Rattle.positions.specs.declared.Slots.the-variants.{Of}
+use Rattle.positions.proofs.Bits.{bits-end, pulses-few, positions-of, positions-none}
+use Rattle.positions.proofs.fcbk_unpk_positions.Statement.{statement}
+use Rattle.positions.proofs.fcbk_unpk_positions.Tie as tie
 
 abbrev Inv-loop : tie.InvT-loop
 Inv-loop code table w₀ i₀ w i =

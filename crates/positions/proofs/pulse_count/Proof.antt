@@ -1,8 +1,8 @@
 use mathlib.Core.Path.{sym, ap}
 use borrow.Author.Needs.{needs}
-use Rattle.pulses.specs.Pulses.{pulses}
-use Rattle.pulses.proofs.pulse_count.Statement.{statement}
-use Rattle.pulses.proofs.pulse_count.Tie as tie
+use Rattle.positions.specs.Positions.{pulses}
+use Rattle.positions.proofs.pulse_count.Statement.{statement}
+use Rattle.positions.proofs.pulse_count.Tie as tie
 
 enum-told : tie.Need-enum-told
 enum-told c = search needs

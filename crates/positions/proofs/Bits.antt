@@ -12,11 +12,11 @@ use lib.Dec.{lit<, lit≤}
 use lib.Pow.{shl-exact}
 use Rattle.integers.specs.Natural.{le-or-lt}
 use Rattle.tables.specs.Rules.{choose}
-use Rattle.pulses.specs.Pulses.{pulses, limit, walk, slots, bits, positions}
-use Rattle.pulses.specs.declared.Count.{Count}
-use Rattle.pulses.specs.declared.Count.the-variants.{Five, Six}
-use Rattle.pulses.specs.declared.Slots.the-variants.{Of, None}
-use Rattle.pulses.proofs.Walks.{walk-hit, walk-miss, walk-done}
+use Rattle.positions.specs.Positions.{pulses, limit, walk, slots, bits, positions}
+use Rattle.positions.specs.declared.Count.{Count}
+use Rattle.positions.specs.declared.Count.the-variants.{Five, Six}
+use Rattle.positions.specs.declared.Slots.the-variants.{Of, None}
+use Rattle.positions.proofs.Steps.{walk-hit, walk-miss, walk-done}
 
 -- ---- a slot
 
