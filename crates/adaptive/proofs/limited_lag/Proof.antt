@@ -10,12 +10,12 @@ use mir.Facts.{toZ-ofZ}
 use Rattle.integers.specs.Base.{limited, up}
 use Rattle.integers.specs.Limit.{limited-low, limited-high, limited-id}
 use Rattle.tables.specs.Constants.{pitchMin, pitchMax}
-use Rattle.excitation.specs.Excitation.{limitedLag}
-use Rattle.excitation.proofs.Bounds.{limited-lag-bounds}
+use Rattle.adaptive.specs.Adaptive.{limitedLag}
+use Rattle.adaptive.proofs.Bounds.{limited-lag-bounds}
 use Rattle.integers.specs.Signed.{natural}
 use Rattle.integers.specs.Linear.{line}
-use Rattle.excitation.proofs.limited_lag.Statement.{statement}
-use Rattle.excitation.proofs.limited_lag.Tie as tie
+use Rattle.adaptive.proofs.limited_lag.Statement.{statement}
+use Rattle.adaptive.proofs.limited_lag.Tie as tie
 
 -- the lag as it is read
 module _ (s : tie.Start) where

@@ -14,7 +14,7 @@ use Rattle.integers.specs.Sum.{sum-ext}
 use Rattle.tables.specs.Constants.{acbTaps}
 use Rattle.correlation.specs.Correlation.{correlation}
 use Rattle.correlation.proofs.Terms.{correlation-is}
-use Rattle.excitation.specs.Excitation.{delayed}
+use Rattle.adaptive.specs.Adaptive.{delayed}
 
 module _ (x : List ℤ) (p l : ℕ) where
   -- the first two samples are older, the next l are the last before p

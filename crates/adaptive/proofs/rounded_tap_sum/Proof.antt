@@ -6,8 +6,8 @@ use mir.Val.{SFits, toZ, ofZ}
 use Rattle.integers.specs.Base.{floorDiv, Within, Is}
 use Rattle.integers.specs.Bound.{within-add, within-num, within-weaken, within-shr-by, fits-within}
 use Rattle.integers.specs.Expression.{is-arg, is-lit, is-add, is-shr, is-cast, need-add, need-cast}
-use Rattle.excitation.proofs.rounded_tap_sum.Statement.{statement}
-use Rattle.excitation.proofs.rounded_tap_sum.Tie as tie
+use Rattle.adaptive.proofs.rounded_tap_sum.Statement.{statement}
+use Rattle.adaptive.proofs.rounded_tap_sum.Tie as tie
 
 -- the sum with its half is below 2 ^ 33, and the quotient below 2 ^ 19
 module _ (s : tie.Start) where

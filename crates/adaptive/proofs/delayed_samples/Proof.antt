@@ -7,11 +7,11 @@ use mir.Syntax.{w16}
 use Rattle.integers.specs.Base.{Fills}
 use Rattle.integers.specs.Fill.{fills-start, fills-next, fills-end}
 use Rattle.integers.specs.Signed.{back}
-use Rattle.excitation.specs.Excitation.{delayed}
-use Rattle.excitation.proofs.Delays.{delayed-first, delayed-again}
-use Rattle.excitation.proofs.Fill.{fills-at}
-use Rattle.excitation.proofs.delayed_samples.Statement.{statement}
-use Rattle.excitation.proofs.delayed_samples.Tie as tie
+use Rattle.adaptive.specs.Adaptive.{delayed}
+use Rattle.adaptive.proofs.Delays.{delayed-first, delayed-again}
+use Rattle.adaptive.proofs.Fill.{fills-at}
+use Rattle.adaptive.proofs.delayed_samples.Statement.{statement}
+use Rattle.adaptive.proofs.delayed_samples.Tie as tie
 
 abbrev Inv-loop : tie.InvT-loop
 Inv-loop signal p l e₀ m₀ e m = Fills (delayed signal p l) 64 e m

@@ -13,11 +13,12 @@ use Rattle.integers.specs.Fill.{fills-start, fills-next, fills-end}
 use Rattle.integers.specs.Signed.{back}
 use Rattle.tables.specs.Constants.{acbTaps}
 use Rattle.correlation.specs.Correlation.{correlation}
-use Rattle.excitation.specs.Excitation.{limitedLag, delayed, adaptiveSample, adaptive}
-use Rattle.excitation.proofs.Bounds.{place-bounds, limited-lag-bounds}
-use Rattle.excitation.proofs.Delays.{delayed-sum}
-use Rattle.excitation.proofs.acb_contribution.Statement.{statement}
-use Rattle.excitation.proofs.acb_contribution.Tie as tie
+use Rattle.excitation.proofs.Bounds.{place-bounds}
+use Rattle.adaptive.specs.Adaptive.{limitedLag, delayed, adaptiveSample, adaptive}
+use Rattle.adaptive.proofs.Bounds.{limited-lag-bounds}
+use Rattle.adaptive.proofs.Delays.{delayed-sum}
+use Rattle.adaptive.proofs.acb_contribution.Statement.{statement}
+use Rattle.adaptive.proofs.acb_contribution.Tie as tie
 
 abbrev Inv-loop : tie.InvT-loop
 Inv-loop signal lag taps p l e u₀ n₀ u n = Fills (adaptiveSample signal p l taps) 60 u n
