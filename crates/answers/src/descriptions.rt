@@ -1,10 +1,10 @@
-// Questions to crate pulses.
+// Questions to crates positions and pulses.
 use crate::input::Cursor;
 use crate::input::next_word;
 use crate::names;
 use crate::output::print_sixty;
 use crate::output::print_slots;
-use pulses::Count;
+use positions::Count;
 use pulses::Description;
 
 pub(crate) fn is_pulse(n: u64) -> bool {
@@ -28,7 +28,7 @@ fn positions(buf: &mut [u8], c: Cursor) -> Cursor {
     let code = first.word;
     let second = next_word(buf, first.cursor);
     let n = second.word;
-    print_slots(pulses::fcbk_unpk_positions(unsigned32(code.size), count(n.size)));
+    print_slots(positions::fcbk_unpk_positions(unsigned32(code.size), count(n.size)));
     second.cursor
 }
 

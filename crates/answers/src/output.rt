@@ -108,10 +108,10 @@ fn slots(found: u32) {
     }
 }
 
-pub(crate) fn print_slots(s: pulses::Slots) {
+pub(crate) fn print_slots(s: positions::Slots) {
     match s {
-        pulses::Slots::Of(found) => slots(found),
-        pulses::Slots::None => {
+        positions::Slots::Of(found) => slots(found),
+        positions::Slots::None => {
             io::write_all(1, b"none");
         }
     }

@@ -1,4 +1,4 @@
-// Questions to crates excitation, synthesis, pitch and postfilter.
+// Questions to crates excitation, adaptive, synthesis, pitch and postfilter.
 use crate::input::Cursor;
 use crate::input::next_list;
 use crate::input::next_wide_list;
@@ -46,7 +46,7 @@ fn adaptive(buf: &mut [u8], c: Cursor) -> Cursor {
     let mut signal = [0i16; 386];
     let l = next_list(buf, k, &mut signal[0..146]);
     let n = number32(lag.word);
-    print_sixty(excitation::acb_contribution(&signal, Subframe::Zero, n, taps));
+    print_sixty(adaptive::acb_contribution(&signal, Subframe::Zero, n, taps));
     l
 }
 
@@ -77,7 +77,7 @@ fn pushed_from(
     let mut signal = [0i16; 386];
     let at = (number % 4) as usize * 60;
     let k = next_list(buf, c, &mut signal[at..at + 146]);
-    let u = excitation::acb_contribution(&signal, subframe(number), lag, taps);
+    let u = adaptive::acb_contribution(&signal, subframe(number), lag, taps);
     let x = excitation::push_excitation(signal, subframe(number), excitation::excitation_sum(u, v));
     list(&x[at + 60..at + 206], true);
     end_line();

@@ -8,9 +8,10 @@ use Rattle.integers.specs.Base.{up}
 use Rattle.tables.specs.Constants.{frameSize, classifierHistory, lspMinimum, lspMinimumErased}
 use Rattle.lsp.specs.Lsps.{checkOrPrevious, extrapolated}
 use Rattle.lpc.specs.Lpc.{frameCoefficients}
-use Rattle.excitation.specs.Excitation.{place, withSubframe, inTurn, limitedLag, adaptive, limitedSum, tapSum, unvoicedGain}
+use Rattle.excitation.specs.Excitation.{place, withSubframe, inTurn, limitedSum, tapSum, unvoicedGain}
 use Rattle.excitation.specs.declared.Subframe.{Subframe}
 use Rattle.excitation.specs.declared.Subframe.the-variants.{Zero, One, Two, Three}
+use Rattle.adaptive.specs.Adaptive.{limitedLag, adaptive}
 use Rattle.pitch.specs.Pitch.{unchanged, postfiltered}
 use Rattle.pitch.specs.declared.Rate.{Rate}
 use Rattle.output.specs.Output.{frameHeard, frameFilters}

@@ -76,7 +76,7 @@ fn received_subframe(signal: [i16; 386], s: Subframe, b: Block) -> [i16; 386]
 {
     let taps = b.taps;
     let fixed = b.fixed;
-    let u = excitation::acb_contribution(&signal, s, b.lag, taps);
+    let u = adaptive::acb_contribution(&signal, s, b.lag, taps);
     let e = excitation::excitation_sum(u, fixed);
     excitation::push_excitation(signal, s, e)
 }

@@ -7,8 +7,9 @@ use lib.IntN.{ℤ, pos, _-ℤ_, _*ℤ_}
 use Rattle.integers.specs.Base.{floorDiv, entry, tabulate}
 use Rattle.tables.specs.Constants.{subframeSize, excHist, erasureAttenuation, erasureMuteAfter, noiseStart, noiseStep, noiseFactor, noiseSummand}
 use Rattle.basicop.specs.Operators.{mult16}
-use Rattle.excitation.specs.Excitation.{place, withSubframe, inTurn, limitedLag}
+use Rattle.excitation.specs.Excitation.{place, withSubframe, inTurn}
 use Rattle.excitation.specs.declared.Subframe.{Subframe}
+use Rattle.adaptive.specs.Adaptive.{limitedLag}
 use Rattle.voicing.specs.declared.Voicing.{Voicing}
 use Rattle.voicing.specs.declared.Voicing.the-variants.{Unvoiced, Voiced}
 

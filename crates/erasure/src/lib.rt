@@ -2,7 +2,8 @@
 ghost use mathlib.Core.Path.{_≡_};
 ghost use Prim.Native.Nat.{_*_, _%_, _^_};
 ghost use lib.IntN.{pos};
-ghost use Rattle.excitation.specs.Excitation.{place, inTurn, limitedLag};
+ghost use Rattle.excitation.specs.Excitation.{place, inTurn};
+ghost use Rattle.adaptive.specs.Adaptive.{limitedLag};
 ghost use Rattle.erasure.specs.Erasure.{nextRun, attenuation, attenuated, startWord, nextWord, wordAfter, noise, noiseSubframe, replayed, noiseTo, replayTo, erasedExcitation};
 use excitation::Subframe;
 use voicing::Voicing;
@@ -94,7 +95,7 @@ fn noise_subframe(gain: i16, start: u32) -> Noise
 fn replayed_subframe(signal: &[i16; 386], s: Subframe, lag: u8, gain: i16) -> [i16; 60]
     ensures { λ r. ⌜ r ≡ replayed (now (signal .entry)) (place s) (limitedLag (pos lag)) gain ⌝ }
 {
-    let l = excitation::limited_lag(lag as i32);
+    let l = adaptive::limited_lag(lag as i32);
     let from = excitation::subframe_place(s) - l;
     let mut out = [0i16; 60];
     let mut m: usize = 0;

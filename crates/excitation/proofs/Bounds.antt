@@ -1,4 +1,4 @@
--- Bounds of places, lags and what is stored for erased frames.
+-- Bounds of places and what is stored for erased frames.
 use mathlib.Core.List.{List}
 use Prim.Native.Nat.{ℕ, _≤_}
 use native.Mathlib.Omega.{arith}
@@ -7,19 +7,15 @@ use lib.IntN.{ℤ, pos}
 use lib.Signed.{_≤ℤ_}
 use Rattle.integers.specs.Limit.{limited-bounds}
 use Rattle.tables.specs.Rules.{gain-most}
-use Rattle.excitation.specs.Excitation.{place, limitedLag, doubledSum, tapSum, unvoicedGain}
+use Rattle.excitation.specs.Excitation.{place, doubledSum, tapSum, unvoicedGain}
 use Rattle.excitation.specs.declared.Subframe.{Subframe}
 use Rattle.excitation.specs.declared.Subframe.the-variants.{Zero, One, Two, Three}
-use Rattle.excitation.proofs.Naturals.{up-between}
 
 pub place-bounds : (s : Subframe) → (146 ≤ place s) × (place s ≤ 326)
 place-bounds Zero = (lit≤ tt, lit≤ tt)
 place-bounds One = (lit≤ tt, lit≤ tt)
 place-bounds Two = (lit≤ tt, lit≤ tt)
 place-bounds Three = (lit≤ tt, lit≤ tt)
-
-pub limited-lag-bounds : (z : ℤ) → (18 ≤ limitedLag z) × (limitedLag z ≤ 142)
-limited-lag-bounds z = up-between 18 142 _ (limited-bounds _ _ z (record { le = tt }))
 
 pub tap-sum-bounds : (taps : List ℤ) → (pos 0 ≤ℤ tapSum taps) × (tapSum taps ≤ℤ pos 32767)
 tap-sum-bounds taps = limited-bounds (pos 0) (pos 32767) (doubledSum taps) (record { le = tt })

@@ -1,7 +1,4 @@
 pub mod Bounds
-pub mod Delays
-pub mod Fill
 pub mod Histories
-pub mod Naturals
 pub mod Parts
 pub mod Values

@@ -4,13 +4,7 @@ use mathlib.Core.List.{[], _∷_}
 use lib.IntN.{pos, negsuc}
 use Rattle.integers.specs.Base.{sumTo}
 use Rattle.tables.specs.Tables.{gains}
-use Rattle.excitation.specs.Excitation.{limitedLag, tapSum, unvoicedGain}
-
-pub lag-of-minus-5 : limitedLag (negsuc 4) ≡ 18
-lag-of-minus-5 = refl
-
-pub lag-of-200 : limitedLag (pos 200) ≡ 142
-lag-of-200 = refl
+use Rattle.excitation.specs.Excitation.{tapSum, unvoicedGain}
 
 -- the largest gain, twice
 pub gain-of-23 : unvoicedGain 23 23 ≡ 13246

@@ -1,13 +1,11 @@
--- Excitation (document 01, "Adaptive part"; the Rust's acb_contribution, the sum in decode_params, push_excitation and record_last_frame). A frame's signal is one list of 386 samples: the excitation history of 146, then the frame's 240.
+-- Excitation (document 01, "Adaptive part"; the Rust's sum in decode_params, push_excitation and record_last_frame). A frame's signal is one list of 386 samples: the excitation history of 146, then the frame's 240.
 use mathlib.Core.Path.{_≡_}
-use mathlib.Core.Bool.{cond}
 use mathlib.Core.List.{List, _++_}
-use Prim.Native.Nat.{ℕ, _+_, _-_, _*_, _/_, _%_, _≤_}
-use lib.Dec.{ltb}
+use Prim.Native.Nat.{ℕ, _+_, _-_, _*_, _/_, _≤_}
 use lib.IntN.{ℤ, pos, _+ℤ_, _*ℤ_}
 use lib.ListN.{take, drop, length}
-use Rattle.integers.specs.Base.{floorDiv, limited, sumTo, up, entry, tabulate}
-use Rattle.tables.specs.Constants.{subframeSize, excHist, pitchMin, pitchMax, acbTaps, tapOne}
+use Rattle.integers.specs.Base.{limited, sumTo, entry, tabulate}
+use Rattle.tables.specs.Constants.{subframeSize, excHist, acbTaps}
 use Rattle.basicop.specs.Operators.{word16}
 use Rattle.pulses.specs.Pulses.{doubledGain}
 use Rattle.excitation.specs.declared.Subframe.{Subframe}
@@ -39,23 +37,6 @@ abbrev pub HistoryPushed : Type 0
 HistoryPushed =
     (x e : List ℤ) (p : ℕ) → length e ≡ subframeSize → excHist ≤ p → p + subframeSize ≤ length x →
     history (withSubframe x p e) (p + subframeSize) ≡ drop subframeSize (history x p) ++ e
-
--- ---- the adaptive part (acb_contribution; eq. 41)
-
--- a lag limited to 18 ..= 142
-abbrev pub limitedLag : ℤ → ℕ
-limitedLag lag = up (limited (pos pitchMin) (pos pitchMax) lag)
-
--- what the taps read for the subframe at p and the lag l, from its sample m = 0 on: two older samples, and then the last l samples before p, again and again
-abbrev pub delayed : List ℤ → ℕ → ℕ → ℕ → ℤ
-delayed x p l m = entry x (p - cond (ltb m 2) (l + 2 - m) (l - (m - 2) % l))
-
--- sample n of the adaptive part: five taps in 16384ths, at delays l + 2 down to l - 2, rounded
-abbrev pub adaptiveSample : List ℤ → ℕ → ℕ → List ℤ → ℕ → ℤ
-adaptiveSample x p l taps n = floorDiv (sumTo (λ j. entry taps j *ℤ delayed x p l (n + j)) acbTaps +ℤ pos (tapOne / 2)) tapOne
-
-unfoldable pub adaptive : List ℤ → ℕ → ℕ → List ℤ → List ℤ
-adaptive x p l taps = tabulate (adaptiveSample x p l taps) subframeSize
 
 -- ---- the sum (decode_params)
 

@@ -1,11 +1,9 @@
-// Excitation: the adaptive part, its sum with the fixed vector, and the signal that holds the history and the frame, under
+// Excitation: the sum of the adaptive part and the fixed vector, and the signal that holds the history and the frame, under
 // the Rust's names (qdec.rs). The Rust's excitation is i32, but always within 16 bits.
 ghost use mathlib.Core.Path.{_≡_};
-ghost use Prim.Native.Nat.{_*_, _^_, _≤_};
 ghost use lib.IntN.{pos, _+ℤ_};
-ghost use Rattle.integers.specs.Base.{tabulate, floorDiv, Within};
 ghost use Rattle.basicop.specs.Operators.{word16};
-ghost use Rattle.excitation.specs.Excitation.{place, withSubframe, limitedLag, delayed, adaptive, limitedSum, tapSum, unvoicedGain};
+ghost use Rattle.excitation.specs.Excitation.{place, withSubframe, limitedSum, tapSum, unvoicedGain};
 
 pub enum Subframe {
     Zero,
@@ -24,63 +22,6 @@ pub fn subframe_place(s: Subframe) -> usize
         Subframe::Two => 266,
         Subframe::Three => 326,
     }
-}
-
-// A lag limited to 18..=142.
-pub fn limited_lag(lag: i32) -> usize
-    ensures { λ r. ⌜ r ≡ limitedLag lag ⌝ }
-{
-    if lag < tables::PITCH_MIN {
-        return tables::PITCH_MIN as usize;
-    }
-    if tables::PITCH_MAX < lag {
-        return tables::PITCH_MAX as usize;
-    }
-    lag as usize
-}
-
-// What the taps read: sixty samples and four more. Those that lie in the subframe itself repeat what was read a lag before.
-fn delayed_samples(signal: &[i16; 386], p: usize, l: usize) -> [i16; 64]
-    requires { ⌜ (146 ≤ p) × (p ≤ 326) ⌝ }
-    requires { ⌜ (18 ≤ l) × (l ≤ 142) ⌝ }
-    ensures { λ r. ⌜ r ≡ tabulate (delayed (now (signal .entry)) p l) 64 ⌝ }
-{
-    let mut e = [0i16; 64];
-    let mut m: usize = 0;
-    while m < 64 {
-        if m < l + 2 {
-            e[m] = signal[p - (l + 2) + m];
-        } else {
-            e[m] = e[m - l];
-        }
-        m += 1;
-    }
-    e
-}
-
-// Back from 16384ths, rounded.
-fn rounded_tap_sum(sum: i64) -> i32
-    requires { ⌜ Within (5 * 2 ^ 30) sum ⌝ }
-    ensures { λ r. ⌜ r ≡ floorDiv (sum +ℤ pos 8192) 16384 ⌝ }
-{
-    ((sum + 8192) >> 14) as i32
-}
-
-// The adaptive part of a subframe, from the signal before it. The Rust limits it to 32 bits, which 16-bit samples do not reach.
-pub fn acb_contribution(signal: &[i16; 386], s: Subframe, lag: i32, taps: [i16; 5]) -> [i32; 60]
-    ensures { λ r. ⌜ r ≡ adaptive (now (signal .entry)) (place s) (limitedLag lag) taps ⌝ }
-{
-    let p = subframe_place(s);
-    let l = limited_lag(lag);
-    let e = delayed_samples(signal, p, l);
-    let mut u = [0i32; 60];
-    let mut n: usize = 0;
-    while n < 60 {
-        let sum = correlation::correlate(&taps, 0, &e, n, 5);
-        u[n] = rounded_tap_sum(sum);
-        n += 1;
-    }
-    u
 }
 
 // A sample of the adaptive part and one of the fixed vector, limited to 16 bits.

@@ -6,7 +6,8 @@ ghost use lib.IntN.{pos, natAbs, _*ℤ_};
 ghost use Rattle.integers.specs.Base.{entry, tabulate, Within, AllWithin};
 ghost use Rattle.wide.specs.Value.{value};
 ghost use Rattle.correlation.specs.Correlation.{energy};
-ghost use Rattle.excitation.specs.Excitation.{place, limitedLag};
+ghost use Rattle.excitation.specs.Excitation.{place};
+ghost use Rattle.adaptive.specs.Adaptive.{limitedLag};
 ghost use Rattle.pitch.specs.Pitch.{window, lagEnergy, bestOf, chosen, gain, gamma, weight, unchanged, mixedSample, mixed, level, levelSample, levelled, applied, postfiltered};
 ghost use Rattle.pitch.specs.Search.{next, beats, Small, Leads, Inside};
 use excitation::Subframe;
@@ -379,7 +380,7 @@ pub fn pitch_postfilter(signal: &[i16; 386], s: Subframe, lag: i32, rate: Rate) 
     if t == 0 {
         return subframe(signal, p);
     }
-    let lo = excitation::limited_lag(lag) - tables::LAG_REACH as usize;
+    let lo = adaptive::limited_lag(lag) - tables::LAG_REACH as usize;
     let f = best_lag(signal, Direction::Forward, p, lo);
     let b = best_lag(signal, Direction::Backward, p, lo);
     applied_choice(signal, rate, p, t, chosen_direction(f, b))

@@ -14,9 +14,10 @@ use Rattle.integers.specs.Base.{entry}
 use Rattle.integers.specs.Fill.{tabulate-at}
 use Rattle.tables.specs.Constants.{subframeSize}
 use Rattle.tables.specs.Rules.{gain-rule, gain-distinct}
-use Rattle.pulses.specs.Pulses.{pulses, limit, slots, size, place, signedBy, pulse, sample, vector, WithSlots, SameGiven, SameRest, EqualVectors, AtMostOne}
-use Rattle.pulses.specs.declared.Count.{Count}
-use Rattle.pulses.specs.declared.Count.the-variants.{Five, Six}
+use Rattle.positions.specs.Positions.{pulses, limit, slots}
+use Rattle.positions.specs.declared.Count.{Count}
+use Rattle.positions.specs.declared.Count.the-variants.{Five, Six}
+use Rattle.pulses.specs.Pulses.{size, place, signedBy, pulse, sample, vector, WithSlots, SameGiven, SameRest, EqualVectors, AtMostOne}
 use Rattle.pulses.specs.declared.Description.{Description}
 use Rattle.pulses.proofs.Walks.{slots-length, slots-code, place-below, place-order}
 use Rattle.pulses.proofs.Sizes.{abs-pulse}

@@ -1,5 +1,4 @@
 pub mod Walks
-pub mod Bits
 pub mod Sizes
 pub mod Repeats
 pub mod Placing

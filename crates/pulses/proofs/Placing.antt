@@ -15,10 +15,11 @@ use Rattle.integers.specs.Natural.{cond-elim}
 use Rattle.integers.specs.Bound.{within-lit, all-within-tabulate}
 use Rattle.integers.specs.Sum.{sum-step, within-sum-to}
 use Rattle.integers.specs.Fill.{tabulate-at, tabulate-ext}
-use Rattle.pulses.specs.Pulses.{pulses, limit, slots, bits, size, place, signedBy, pulse, repeats, period, reaches, term, sample, vector}
+use Rattle.positions.specs.Positions.{pulses, limit, slots, bits}
+use Rattle.positions.proofs.Bits.{double, pulses-few}
+use Rattle.pulses.specs.Pulses.{size, place, signedBy, pulse, repeats, period, reaches, term, sample, vector}
 use Rattle.pulses.specs.declared.Description.{Description}
 use Rattle.pulses.proofs.Walks.{Ascends, ascends-from, slots-length, slots-ascend, place-below}
-use Rattle.pulses.proofs.Bits.{double, pulses-few}
 use Rattle.pulses.proofs.Sizes.{abs-pulse, size-most}
 use Rattle.pulses.proofs.Repeats.{repeats-reaches}
 

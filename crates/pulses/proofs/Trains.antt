@@ -12,7 +12,8 @@ use Rattle.integers.specs.Base.{sumTo}
 use Rattle.integers.specs.Linear.{line, line-add, add-cancel}
 use Rattle.integers.specs.Natural.{le-or-lt}
 use Rattle.tables.specs.Constants.{subframeSize}
-use Rattle.pulses.specs.Pulses.{pulses, limit, place, pulse, repeats, period, reaches, term, sample, WithSlots, SameGiven, SameRest}
+use Rattle.positions.specs.Positions.{pulses, limit}
+use Rattle.pulses.specs.Pulses.{place, pulse, repeats, period, reaches, term, sample, WithSlots, SameGiven, SameRest}
 use Rattle.pulses.specs.declared.Description.{Description}
 use Rattle.pulses.proofs.Distinct.{sumAt}
 use Rattle.pulses.proofs.Repeats.{repeats-earlier, repeats-here, repeats-between}

@@ -7,30 +7,15 @@ use Prim.Native.Nat.{ℕ, zero, suc, _+_, _-_, _≤_, _<_}
 use native.Mathlib.Omega.{arith}
 use lib.Dec.{T, eqb}
 use lib.ListN.{length, getD}
-use borrow.Author.Tests.{lt-ltb, le-ltb, eq-eqb, ne-eqb}
+use borrow.Author.Tests.{eq-eqb, ne-eqb}
 use Rattle.integers.specs.Natural.{le-or-lt}
 use Rattle.tables.specs.Rules.{choose}
-use Rattle.pulses.specs.Pulses.{pulses, limit, walk, slots, place}
-use Rattle.pulses.specs.declared.Count.{Count}
-use Rattle.pulses.specs.declared.Count.the-variants.{Five, Six}
+use Rattle.positions.specs.Positions.{pulses, limit, walk, slots}
+use Rattle.positions.specs.declared.Count.{Count}
+use Rattle.positions.specs.declared.Count.the-variants.{Five, Six}
+use Rattle.positions.proofs.Steps.{walk-done, walk-hit, walk-miss}
+use Rattle.pulses.specs.Pulses.{place}
 use Rattle.pulses.specs.declared.Description.{Description}
-
--- ---- one step
-
-pub walk-done : (s c : ℕ) → walk s 0 c ≡ []
-unfolding walk
-walk-done zero c = refl
-walk-done (suc s) c = refl
-
-pub walk-hit : (s r c : ℕ) → c < choose s r → walk (suc s) (suc r) c ≡ (30 - suc s) ∷ walk s r c
-unfolding walk
-walk-hit s r c h =
-    ap (λ (t : Bool). elim t [ true ↦ (30 - suc s) ∷ walk s r c | false ↦ walk s (suc r) (c - choose s r) ]) (lt-ltb c (choose s r) h)
-
-pub walk-miss : (s r c : ℕ) → choose s r ≤ c → walk (suc s) (suc r) c ≡ walk s (suc r) (c - choose s r)
-unfolding walk
-walk-miss s r c h =
-    ap (λ (t : Bool). elim t [ true ↦ (30 - suc s) ∷ walk s r c | false ↦ walk s (suc r) (c - choose s r) ]) (le-ltb c (choose s r) h)
 
 -- ---- the slots ascend: each is at least lo, below 30, and greater than the one before
 

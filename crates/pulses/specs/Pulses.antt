@@ -1,52 +1,17 @@
--- Pulses (document 01, "Pulses"; the Rust's fcbk_unpk_positions and mpmlq_fixed_vector, which name §2.17 of G.723.1): the slots of a position code, the vector of a pulse description, when a description is accepted, and the theorem on equal vectors (demand 3), which proofs/EqualVectors.antt proves.
+-- Pulses (document 01, "Pulses"; the Rust's mpmlq_fixed_vector, which names §2.17 of G.723.1): the vector of a pulse description, when a description is accepted, and the theorem on equal vectors (demand 3), which proofs/EqualVectors.antt proves.
 use mathlib.Core.Path.{_≡_}
 use mathlib.Core.Bool.{Bool, true, false, cond, _&&_}
-use mathlib.Core.List.{List, [], _∷_}
+use mathlib.Core.List.{List}
 use mathlib.Core.Logic.{_↔_}
-use Prim.Native.Nat.{ℕ, zero, suc, _+_, _-_, _*_, _/_, _%_, _^_, _≤_, _<_, max}
+use Prim.Native.Nat.{ℕ, _+_, _-_, _*_, _/_, _%_, _^_, _≤_, _<_, max}
 use lib.Dec.{leb, ltb, eqb}
 use lib.IntN.{ℤ, pos, negℤ}
 use lib.ListN.{getD}
 use Rattle.integers.specs.Base.{sumTo, entry, tabulate}
-use Rattle.tables.specs.Constants.{subframeSize, pitchMin, trainLagLimit, gridSlots, pulsesOdd, pulsesEven, positionLimitFive, positionLimitSix, gainIndexMax}
+use Rattle.tables.specs.Constants.{subframeSize, pitchMin, trainLagLimit, gainIndexMax}
 use Rattle.tables.specs.Tables.{gains}
-use Rattle.tables.specs.Rules.{choose}
-use Rattle.pulses.specs.declared.Count.{Count}
-use Rattle.pulses.specs.declared.Count.the-variants.{Five, Six}
-use Rattle.pulses.specs.declared.Slots.{Slots}
-use Rattle.pulses.specs.declared.Slots.the-variants.{Of, None}
+use Rattle.positions.specs.Positions.{pulses, limit, slots}
 use Rattle.pulses.specs.declared.Description.{Description}
-
--- ---- position codes (fcbk_unpk_positions)
-
--- how many pulses
-abbrev pub pulses : Count → ℕ
-pulses Five = pulsesOdd
-pulses Six = pulsesEven
-
--- the first code without slots, 142506 for five and 593775 for six: as many codes as there are ways to choose the slots
-abbrev pub limit : Count → ℕ
-limit Five = positionLimitFive
-limit Six = positionLimitSix
-
--- the slots that get a pulse, in ascending order, where s of the thirty slots are still to be walked, r pulses are still wanted and c is left of the code: the weight is the number of ways to choose r - 1 of the later slots; a code below it puts a pulse here, otherwise it is subtracted
-unfoldable pub walk : ℕ → ℕ → ℕ → List ℕ
-walk zero r c = []
-walk (suc s) zero c = []
-walk (suc s) (suc r) c = elim (ltb c (choose s r)) [ true ↦ (gridSlots - suc s) ∷ walk s r c | false ↦ walk s (suc r) (c - choose s r) ]
-
--- the slots of the code c
-abbrev pub slots : Count → ℕ → List ℕ
-slots n c = walk gridSlots (pulses n) c
-
--- slots as one number with a bit for each, that of slot 0 the lowest
-unfoldable pub bits : List ℕ → ℕ
-bits [] = 0
-bits (p ∷ ps) = 2 ^ p + bits ps
-
--- what a code is read as: the bits of its slots, and none at the limit or above
-unfoldable pub positions : Count → ℕ → Slots
-positions n c = cond (ltb c (limit n)) (Of (bits (slots n c))) None
 
 -- ---- the vector of a pulse description (mpmlq_fixed_vector)
 

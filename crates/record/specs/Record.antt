@@ -7,9 +7,9 @@ use lib.IntN.{ℤ, pos, _+ℤ_, _-ℤ_}
 use lib.ListN.{getD}
 use Rattle.integers.specs.Base.{tabulate}
 use Rattle.tables.specs.Constants.{lpcOrder, subframeSize, acbTaps, pitchMin, stepCodeZero}
+use Rattle.positions.specs.declared.Count.{Count}
+use Rattle.positions.specs.declared.Count.the-variants.{Five, Six}
 use Rattle.pulses.specs.Pulses.{vector}
-use Rattle.pulses.specs.declared.Count.{Count}
-use Rattle.pulses.specs.declared.Count.the-variants.{Five, Six}
 use Rattle.pulses.specs.declared.Description.{Description}
 use Rattle.excitation.specs.declared.Subframe.{Subframe}
 use Rattle.excitation.specs.declared.Subframe.the-variants.{Zero, One, Two, Three}

@@ -4,7 +4,7 @@ ghost use Prim.Native.Nat.{_+_, _*_, _<_};
 ghost use Rattle.record.specs.Record.{byte, word, words, candidates, lagPlace, baseLag, lag, blockPlace, count, description, fixed, blockOf};
 use excitation::Subframe;
 use pitch::Rate;
-use pulses::Count;
+use positions::Count;
 use pulses::Description;
 
 // What the decoder reads of a subframe.

@@ -8,7 +8,8 @@ use borrow.Author.Tests.{ltb-false, leb-false}
 use lib.Dec.{T, ltb, leb}
 use Rattle.pitch.specs.declared.Rate.{Rate}
 use Rattle.pitch.specs.declared.Rate.the-variants as rates
-use Rattle.pulses.specs.Pulses.{pulses, Accepted}
+use Rattle.positions.specs.Positions.{pulses}
+use Rattle.pulses.specs.Pulses.{Accepted}
 use Rattle.excitation.specs.declared.Subframe.{Subframe}
 use Rattle.excitation.specs.declared.Subframe.the-variants.{Zero, One, Two, Three}
 use Rattle.record.specs.Record.{byte, baseLag, gainIndex, train, count, description}

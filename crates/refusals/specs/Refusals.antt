@@ -5,7 +5,7 @@ use Prim.Native.Nat.{ℕ, zero, suc, _^_}
 use lib.Dec.{ltb, leb, eqb}
 use lib.ListN.{length}
 use Rattle.tables.specs.Constants.{recordHighBytes, recordLowBytes, lagCodeMax, stepCodeMax, gainIndexMax, flagsMax, trainLagLimit}
-use Rattle.pulses.specs.Pulses.{pulses}
+use Rattle.positions.specs.Positions.{pulses}
 use Rattle.excitation.specs.declared.Subframe.{Subframe}
 use Rattle.excitation.specs.declared.Subframe.the-variants.{Zero, One, Two, Three}
 use Rattle.pitch.specs.declared.Rate.{Rate}

@@ -13,9 +13,10 @@ use mir.Val.{SFits}
 use Rattle.integers.specs.Base.{entry, tabulate, AllFit}
 use Rattle.integers.specs.Fill.{tabulate-at, tabulate-length}
 use Rattle.integers.specs.Natural.{le-or-lt}
-use Rattle.excitation.specs.Excitation.{place, withSubframe, inTurn, limitedLag, adaptive, limitedSum}
+use Rattle.excitation.specs.Excitation.{place, withSubframe, inTurn, limitedSum}
 use Rattle.excitation.specs.declared.Subframe.{Subframe}
 use Rattle.excitation.specs.declared.Subframe.the-variants.{Zero, One, Two, Three}
+use Rattle.adaptive.specs.Adaptive.{limitedLag, adaptive}
 use Rattle.voicing.specs.declared.Voicing.{Voicing}
 use Rattle.voicing.specs.declared.Voicing.the-variants.{Unvoiced, Voiced}
 use Rattle.erasure.specs.Erasure.{attenuated, startWord, wordAfter, noiseSubframe, replayed, erasedExcitation}

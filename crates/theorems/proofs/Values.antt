@@ -2,6 +2,7 @@
 use Rattle.basicop.proofs.Values as basicop
 use Rattle.lsp.proofs.Values as lsp
 use Rattle.lpc.proofs.Values as lpc
+use Rattle.positions.proofs.Values as positions
 use Rattle.pulses.proofs.Values as pulses
 use Rattle.postfilter.proofs.Values as postfilter
 use Rattle.theorems.specs.Values.{StarredValues}
@@ -15,12 +16,12 @@ starred-values = record {
   stabilised-1000-1100 = lsp.stabilised-1000-1100;
   root-of-15 = basicop.root-of-15;
   root-of-16 = basicop.root-of-16;
-  six-0 = pulses.slots-of-six-0;
-  six-118754 = pulses.slots-of-six-118754;
-  six-118755 = pulses.slots-of-six-118755;
-  six-593774 = pulses.slots-of-six-593774;
-  six-593775 = pulses.none-for-six-593775;
-  five-142505 = pulses.slots-of-five-142505;
+  six-0 = positions.slots-of-six-0;
+  six-118754 = positions.slots-of-six-118754;
+  six-118755 = positions.slots-of-six-118755;
+  six-593774 = positions.slots-of-six-593774;
+  six-593775 = positions.none-for-six-593775;
+  five-142505 = positions.slots-of-five-142505;
   train-18 = pulses.train-18;
   gain-1-towards-0 = postfilter.towards-0-of-1;
   gain-0-towards-5 = postfilter.towards-5-of-0;

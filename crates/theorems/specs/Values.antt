@@ -6,9 +6,10 @@ use lib.IntN.{pos, negsuc}
 use Rattle.basicop.specs.Root.{root}
 use Rattle.lsp.specs.Lsps.{stabilised}
 use Rattle.lpc.specs.Lpc.{cosine}
-use Rattle.pulses.specs.Pulses.{slots, positions, vector}
-use Rattle.pulses.specs.declared.Count.the-variants.{Five, Six}
-use Rattle.pulses.specs.declared.Slots.the-variants.{None}
+use Rattle.positions.specs.Positions.{slots, positions}
+use Rattle.positions.specs.declared.Count.the-variants.{Five, Six}
+use Rattle.positions.specs.declared.Slots.the-variants.{None}
+use Rattle.pulses.specs.Pulses.{vector}
 use Rattle.postfilter.specs.Postfilter.{towards}
 
 pub record StarredValues : Type 0 where

@@ -7,7 +7,7 @@ use lib.IntN.{ℤ, pos, natAbs, _+ℤ_, _-ℤ_}
 use lib.Signed.{ltZ}
 use Rattle.tables.specs.Constants.{lagReach, classifierHistory, voicingGate, voicingRankOne}
 use Rattle.correlation.specs.Correlation.{correlation, energy}
-use Rattle.excitation.specs.Excitation.{limitedLag}
+use Rattle.adaptive.specs.Adaptive.{limitedLag}
 use Rattle.voicing.specs.declared.Voicing.{Voicing}
 use Rattle.voicing.specs.declared.Voicing.the-variants.{Unvoiced, Voiced}
 

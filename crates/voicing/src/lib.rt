@@ -27,7 +27,7 @@ fn candidate_lag(centre: u8, k: u8) -> u8
     requires { ⌜ k < 7 ⌝ }
     ensures { λ r. ⌜ r ≡ candidate centre k ⌝ }
 {
-    excitation::limited_lag(centre as i32 + k as i32 - tables::LAG_REACH) as u8
+    adaptive::limited_lag(centre as i32 + k as i32 - tables::LAG_REACH) as u8
 }
 
 // c²/(e t) in 2^30ths. A sum of less than 120 products leaves room for 2^30.

@@ -6,9 +6,10 @@ use mir.Syntax.{w32}
 use Rattle.integers.specs.Base.{entry}
 use Rattle.integers.specs.Signed.{read-back}
 use Rattle.record.specs.Record.{number}
-use Rattle.excitation.specs.Excitation.{place, limitedLag}
+use Rattle.excitation.specs.Excitation.{place}
 use Rattle.excitation.specs.declared.Subframe.{Subframe}
 use Rattle.excitation.specs.declared.Subframe.the-variants.{Zero, One, Two, Three}
+use Rattle.adaptive.specs.Adaptive.{limitedLag}
 use Rattle.pitch.specs.Pitch.{postfiltered}
 use Rattle.decoder.specs.Frame.{plainInputs, pitchInputs}
 use Rattle.integers.specs.Truth.{choice-off, choice-on}

@@ -1,7 +1,8 @@
 use mathlib.Core.Path.{_∙_}
 use mir.Syntax.{w32}
 use Rattle.integers.specs.Signed.{read-back}
-use Rattle.excitation.specs.Excitation.{place, withSubframe, limitedLag, adaptive, limitedSum}
+use Rattle.excitation.specs.Excitation.{place, withSubframe, limitedSum}
+use Rattle.adaptive.specs.Adaptive.{limitedLag, adaptive}
 use Rattle.decoder.proofs.received_subframe.Statement.{statement}
 use Rattle.decoder.proofs.received_subframe.Tie as tie
 

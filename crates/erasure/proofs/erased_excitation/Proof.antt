@@ -5,7 +5,8 @@ use mir.Syntax.{w16}
 use mir.Facts.{toZ-ofZ}
 use Rattle.integers.specs.Signed.{back}
 use Rattle.voicing.specs.declared.Voicing.{Voicing}
-use Rattle.excitation.specs.Excitation.{inTurn, limitedLag}
+use Rattle.excitation.specs.Excitation.{inTurn}
+use Rattle.adaptive.specs.Adaptive.{limitedLag}
 use Rattle.erasure.specs.Erasure.{attenuated, noiseTo, replayTo, erasedExcitation}
 use Rattle.erasure.proofs.erased_excitation.Statement.{statement}
 use Rattle.erasure.proofs.erased_excitation.Tie as tie

@@ -2,8 +2,8 @@ use mathlib.Core.Path.{_∙_}
 use lib.IntN.{pos}
 use mir.Syntax.{w16}
 use mir.Facts.{toZ-ofZ}
-use Rattle.excitation.specs.Excitation.{limitedLag}
 use Rattle.excitation.specs.declared.Subframe.the-variants.{Zero, One, Two, Three}
+use Rattle.adaptive.specs.Adaptive.{limitedLag}
 use Rattle.erasure.specs.Erasure.{replayTo}
 use Rattle.erasure.proofs.replay_frame.Statement.{statement}
 use Rattle.erasure.proofs.replay_frame.Tie as tie

@@ -2,7 +2,8 @@ use mathlib.Core.Path.{ap, _∙_}
 use lib.IntN.{pos}
 use mir.Syntax.{w16}
 use mir.Facts.{toZ-ofZ}
-use Rattle.excitation.specs.Excitation.{place, withSubframe, limitedLag}
+use Rattle.excitation.specs.Excitation.{place, withSubframe}
+use Rattle.adaptive.specs.Adaptive.{limitedLag}
 use Rattle.erasure.specs.Erasure.{replayed}
 use Rattle.erasure.proofs.replay_subframe.Statement.{statement}
 use Rattle.erasure.proofs.replay_subframe.Tie as tie

@@ -11,8 +11,9 @@ use Rattle.integers.specs.Base.{Fills, entry, tabulate}
 use Rattle.integers.specs.Fill.{fills-start, fills-next, fills-end}
 use Rattle.integers.specs.Signed.{back, read-back}
 use Rattle.basicop.specs.Operators.{mult16}
-use Rattle.excitation.specs.Excitation.{limitedLag}
-use Rattle.excitation.proofs.Bounds.{place-bounds, limited-lag-bounds}
+use Rattle.excitation.proofs.Bounds.{place-bounds}
+use Rattle.adaptive.specs.Adaptive.{limitedLag}
+use Rattle.adaptive.proofs.Bounds.{limited-lag-bounds}
 use Rattle.erasure.specs.Erasure.{replayed}
 use Rattle.erasure.proofs.Turns.{turn-on, turn-over}
 use Rattle.erasure.proofs.replayed_subframe.Statement.{statement}

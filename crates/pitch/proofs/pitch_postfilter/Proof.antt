@@ -4,8 +4,9 @@ use native.Mathlib.Omega.{arith}
 use borrow.Author.Needs.{needs}
 use mir.Syntax.{w32}
 use mir.Facts.{toZ-ofZ}
-use Rattle.excitation.specs.Excitation.{limitedLag}
-use Rattle.excitation.proofs.Bounds.{place-bounds, limited-lag-bounds}
+use Rattle.excitation.proofs.Bounds.{place-bounds}
+use Rattle.adaptive.specs.Adaptive.{limitedLag}
+use Rattle.adaptive.proofs.Bounds.{limited-lag-bounds}
 use Rattle.pitch.specs.Pitch.{chosen, postfiltered}
 use Rattle.pitch.specs.Search.{Inside, Small}
 use Rattle.pitch.proofs.Choices.{chosen-holds}

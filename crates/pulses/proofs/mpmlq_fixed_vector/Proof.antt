@@ -1,6 +1,6 @@
 use mathlib.Core.Path.{sym, _∙_}
 use borrow.Author.Needs.{needs}
-use Rattle.pulses.proofs.Bits.{read-of, read-none}
+use Rattle.positions.proofs.Bits.{read-of, read-none}
 use Rattle.pulses.proofs.Placing.{vector-none}
 use Rattle.pulses.proofs.mpmlq_fixed_vector.Statement.{statement}
 use Rattle.pulses.proofs.mpmlq_fixed_vector.Tie as tie

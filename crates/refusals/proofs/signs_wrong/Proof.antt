@@ -4,7 +4,7 @@ use Prim.Native.Nat.{ℕ, _+_, _^_}
 use native.Mathlib.Omega.{arith}
 use borrow.Author.Needs.{needs}
 use lib.Dec.{leb}
-use Rattle.pulses.specs.Pulses.{pulses}
+use Rattle.positions.specs.Positions.{pulses}
 use Rattle.excitation.specs.declared.Subframe.{Subframe}
 use Rattle.pitch.specs.declared.Rate.the-variants.{High}
 use Rattle.record.specs.Record.{byte, signs, count}

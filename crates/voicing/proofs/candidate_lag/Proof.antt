@@ -7,8 +7,8 @@ use mir.Facts.{sfits-lit}
 use Rattle.integers.specs.Signed.{sub-fits}
 use Rattle.integers.specs.Base.{Is}
 use Rattle.integers.specs.Expression.{is-arg, is-lit, is-add, is-sub, need-add, need-sub}
-use Rattle.excitation.specs.Excitation.{limitedLag}
-use Rattle.excitation.proofs.Bounds.{limited-lag-bounds}
+use Rattle.adaptive.specs.Adaptive.{limitedLag}
+use Rattle.adaptive.proofs.Bounds.{limited-lag-bounds}
 use Rattle.voicing.proofs.candidate_lag.Statement.{statement}
 use Rattle.voicing.proofs.candidate_lag.Tie as tie
 

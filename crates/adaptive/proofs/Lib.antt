@@ -1,0 +1,5 @@
+pub mod Bounds
+pub mod Delays
+pub mod Fill
+pub mod Naturals
+pub mod Values
