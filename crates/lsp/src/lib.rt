@@ -5,7 +5,7 @@ ghost use Prim.Native.Nat.{_<_};
 ghost use lib.IntN.{_+ℤ_, _-ℤ_};
 ghost use lib.Signed.{ltZ};
 ghost use Rattle.integers.specs.Base.{floorDiv, entry, tabulate};
-ghost use Rattle.basicop.specs.Operators.{mult32, mac32, rounded16};
+ghost use Rattle.basicop32.specs.Operators32.{mult32, mac32, rounded16};
 ghost use Rattle.lsp.specs.Lsps.{short, spread, pass, passMoves, anyShort, stabilised, checkOrPrevious, interpolated, predicted, extrapolated};
 
 // The LSPs after stabilising, and whether every gap is then at least the minimum.
@@ -125,7 +125,7 @@ pub fn lsp_check_or_previous(cand: [i16; 10], prev: [i16; 10], minimum: i16) -> 
 fn weighed(wp: i16, wc: i16, prev: i16, cur: i16) -> i16
     ensures { λ r. ⌜ r ≡ rounded16 (mac32 (mult32 prev wp) cur wc) ⌝ }
 {
-    basicop::round16(basicop::l_mac(basicop::l_mult(prev, wp), cur, wc))
+    basicop32::round16(basicop32::l_mac(basicop32::l_mult(prev, wp), cur, wc))
 }
 
 fn blended(wp: i16, wc: i16, prev: [i16; 10], cur: [i16; 10]) -> [i16; 10]

@@ -1,5 +1,5 @@
 -- The starred values, each computed in the crate of its definition.
-use Rattle.basicop.proofs.Values as basicop
+use Rattle.root.proofs.Values as root
 use Rattle.lsp.proofs.Values as lsp
 use Rattle.lpc.proofs.Values as lpc
 use Rattle.pulses.proofs.Values as pulses
@@ -13,8 +13,8 @@ starred-values = record {
   cosine-of-64 = lpc.cosine-of-64;
   cosine-of-32767 = lpc.cosine-of-32767;
   stabilised-1000-1100 = lsp.stabilised-1000-1100;
-  root-of-15 = basicop.root-of-15;
-  root-of-16 = basicop.root-of-16;
+  root-of-15 = root.root-of-15;
+  root-of-16 = root.root-of-16;
   six-0 = pulses.slots-of-six-0;
   six-118754 = pulses.slots-of-six-118754;
   six-118755 = pulses.slots-of-six-118755;

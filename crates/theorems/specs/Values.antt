@@ -3,7 +3,7 @@ use mathlib.Core.Path.{_≡_}
 use mathlib.Core.Bool.{true, false}
 use mathlib.Core.List.{[], _∷_}
 use lib.IntN.{pos, negsuc}
-use Rattle.basicop.specs.Root.{root}
+use Rattle.root.specs.Root.{root}
 use Rattle.lsp.specs.Lsps.{stabilised}
 use Rattle.lpc.specs.Lpc.{cosine}
 use Rattle.pulses.specs.Pulses.{slots, positions, vector}

@@ -1,7 +1,7 @@
 use mir.Syntax.{w32, w64}
 use Rattle.integers.specs.Saturation.{arm-above, arm-below, arm-cast, arm-between}
-use Rattle.basicop.proofs.sat32.Statement.{statement}
-use Rattle.basicop.proofs.sat32.Tie as tie
+use Rattle.basicop32.proofs.sat32.Statement.{statement}
+use Rattle.basicop32.proofs.sat32.Tie as tie
 
 cast-result : tie.Need-cast-result
 cast-result c = arm-cast w64 w32 2147483647 tt (c .before .before .fits .x) (c .before .if1 .left) (c .if2 .left)

@@ -2,9 +2,9 @@ use mathlib.Core.Path.{_≡_, _∙_, ap}
 use lib.IntN.{ℤ, _+ℤ_}
 use mir.Syntax.{w32}
 use Rattle.integers.specs.Signed.{signed, back}
-use Rattle.basicop.specs.Operators.{mult32, word32}
-use Rattle.basicop.proofs.l_mac.Statement.{statement}
-use Rattle.basicop.proofs.l_mac.Tie as tie
+use Rattle.basicop32.specs.Operators32.{mult32, word32}
+use Rattle.basicop32.proofs.l_mac.Statement.{statement}
+use Rattle.basicop32.proofs.l_mac.Tie as tie
 
 l-mult-requires : tie.Need-l-mult-requires
 l-mult-requires c κs = search signed

@@ -3,9 +3,9 @@ use Prim.Native.Nat.{_^_}
 use lib.IntN.{ℤ, pos}
 use mir.Syntax.{w16, w32}
 use Rattle.integers.specs.Signed.{back, read-back, signed}
-use Rattle.basicop.specs.Operators.{add32, high16}
-use Rattle.basicop.proofs.round16.Statement.{statement}
-use Rattle.basicop.proofs.round16.Tie as tie
+use Rattle.basicop32.specs.Operators32.{add32, high16}
+use Rattle.basicop32.proofs.round16.Statement.{statement}
+use Rattle.basicop32.proofs.round16.Tie as tie
 
 l-add-requires : tie.Need-l-add-requires
 l-add-requires c κs = search signed

@@ -1,6 +1,6 @@
 use Rattle.integers.specs.Signed.{signed}
-use Rattle.basicop.proofs.extract_h.Statement.{statement}
-use Rattle.basicop.proofs.extract_h.Tie as tie
+use Rattle.basicop32.proofs.extract_h.Statement.{statement}
+use Rattle.basicop32.proofs.extract_h.Tie as tie
 
 cast-result : tie.Need-cast-result
 cast-result c = search signed

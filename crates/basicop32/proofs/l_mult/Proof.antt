@@ -4,8 +4,8 @@ use mir.Syntax.{w32, w64}
 use mir.Val.{SFits}
 use Rattle.integers.specs.Bound.{fits-within, within-mul, within-fits, within-num}
 use Rattle.integers.specs.Signed.{signed, back}
-use Rattle.basicop.proofs.l_mult.Statement.{statement}
-use Rattle.basicop.proofs.l_mult.Tie as tie
+use Rattle.basicop32.proofs.l_mult.Statement.{statement}
+use Rattle.basicop32.proofs.l_mult.Tie as tie
 
 cast-sat32 : tie.Need-cast-sat32
 cast-sat32 c = search signed

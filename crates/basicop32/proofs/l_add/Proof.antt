@@ -1,8 +1,8 @@
 use mathlib.Core.Path.{_∙_}
 use mir.Syntax.{w32}
 use Rattle.integers.specs.Signed.{signed, back}
-use Rattle.basicop.proofs.l_add.Statement.{statement}
-use Rattle.basicop.proofs.l_add.Tie as tie
+use Rattle.basicop32.proofs.l_add.Statement.{statement}
+use Rattle.basicop32.proofs.l_add.Tie as tie
 
 cast-sat32 : tie.Need-cast-sat32
 cast-sat32 c = search signed
