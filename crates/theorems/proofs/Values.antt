@@ -1,6 +1,6 @@
 -- The starred values, each computed in the crate of its definition.
 use Rattle.root.proofs.Values as root
-use Rattle.lsp.proofs.Values as lsp
+use Rattle.stability.proofs.Values as stability
 use Rattle.lpc.proofs.Values as lpc
 use Rattle.pulses.proofs.Values as pulses
 use Rattle.postfilter.proofs.Values as postfilter
@@ -12,7 +12,7 @@ starred-values = record {
   cosine-of-0 = lpc.cosine-of-0;
   cosine-of-64 = lpc.cosine-of-64;
   cosine-of-32767 = lpc.cosine-of-32767;
-  stabilised-1000-1100 = lsp.stabilised-1000-1100;
+  stabilised-1000-1100 = stability.stabilised-1000-1100;
   root-of-15 = root.root-of-15;
   root-of-16 = root.root-of-16;
   six-0 = pulses.slots-of-six-0;

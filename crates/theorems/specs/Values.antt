@@ -4,7 +4,7 @@ use mathlib.Core.Bool.{true, false}
 use mathlib.Core.List.{[], _∷_}
 use lib.IntN.{pos, negsuc}
 use Rattle.root.specs.Root.{root}
-use Rattle.lsp.specs.Lsps.{stabilised}
+use Rattle.stability.specs.Stability.{stabilised}
 use Rattle.lpc.specs.Lpc.{cosine}
 use Rattle.pulses.specs.Pulses.{slots, positions, vector}
 use Rattle.pulses.specs.declared.Count.the-variants.{Five, Six}

@@ -2,9 +2,9 @@ use mathlib.Core.Path.{_≡_, sym, ap, _∙_}
 use mathlib.Core.Bool.{Bool, true, false, cond}
 use lib.IntN.{ℤ}
 use mir.Facts.{toZ-ofZ}
-use Rattle.lsp.specs.Lsps.{stabilised, checkOrPrevious}
-use Rattle.lsp.proofs.lsp_check_or_previous.Statement.{statement}
-use Rattle.lsp.proofs.lsp_check_or_previous.Tie as tie
+use Rattle.stability.specs.Stability.{stabilised, checkOrPrevious}
+use Rattle.stability.proofs.lsp_check_or_previous.Statement.{statement}
+use Rattle.stability.proofs.lsp_check_or_previous.Tie as tie
 
 lsp-stability-requires : tie.Need-lsp-stability-requires
 lsp-stability-requires c κs = tt

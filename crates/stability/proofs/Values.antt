@@ -4,7 +4,7 @@ use mathlib.Core.Bool.{true}
 use mathlib.Core.List.{[], _∷_}
 use lib.IntN.{pos}
 use Rattle.integers.specs.Base.{saturated}
-use Rattle.lsp.specs.Lsps.{passTo, anyTo, passes, stabilised}
+use Rattle.stability.specs.Stability.{passTo, anyTo, passes, stabilised}
 
 -- LSPs 1000, 1100, 2000, …, 9000 at minimum 256: the first two move, and they pass
 pub stabilised-1000-1100 :

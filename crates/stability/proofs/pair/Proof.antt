@@ -8,9 +8,9 @@ use mir.Syntax.{w16}
 use mir.Facts.{toZ-ofZ}
 use Rattle.integers.specs.Base.{entry}
 use Rattle.integers.specs.Signed.{read-back}
-use Rattle.lsp.specs.Lsps.{short, spread}
-use Rattle.lsp.proofs.pair.Statement.{statement}
-use Rattle.lsp.proofs.pair.Tie as tie
+use Rattle.stability.specs.Stability.{short, spread}
+use Rattle.stability.proofs.pair.Statement.{statement}
+use Rattle.stability.proofs.pair.Tie as tie
 
 mul-is-short : tie.Need-mul-is-short
 mul-is-short c = omega arith

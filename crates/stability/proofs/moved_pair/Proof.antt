@@ -9,9 +9,9 @@ use Rattle.integers.specs.Base.{entry, floorDiv}
 use Rattle.integers.specs.Expression.{is-arg, is-quot, need-quot}
 use Rattle.integers.specs.Signed.{back, read-back}
 use Rattle.basicop.specs.Operators.{add16, sub16}
-use Rattle.lsp.specs.Lsps.{average}
-use Rattle.lsp.proofs.moved_pair.Statement.{statement}
-use Rattle.lsp.proofs.moved_pair.Tie as tie
+use Rattle.stability.specs.Stability.{average}
+use Rattle.stability.proofs.moved_pair.Statement.{statement}
+use Rattle.stability.proofs.moved_pair.Tie as tie
 
 mul-midpoint : tie.Need-mul-midpoint
 mul-midpoint c = omega arith

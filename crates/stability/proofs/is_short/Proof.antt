@@ -3,8 +3,8 @@ use mir.Syntax.{w32}
 use mir.Val.{SFits}
 use Rattle.integers.specs.Signed.{widen, sub-fits}
 use Rattle.integers.specs.Expression.{is-arg, is-cast, is-sub, is-lt, need-cast, need-sub}
-use Rattle.lsp.proofs.is_short.Statement.{statement}
-use Rattle.lsp.proofs.is_short.Tie as tie
+use Rattle.stability.proofs.is_short.Statement.{statement}
+use Rattle.stability.proofs.is_short.Tie as tie
 
 gap-fits : (s : tie.Start) → SFits w32 (s .args .b -ℤ s .args .a)
 gap-fits s = sub-fits (s .args .b) (s .args .a) (s .fits .b) (s .fits .a) tt

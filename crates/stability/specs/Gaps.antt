@@ -12,8 +12,8 @@ use lib.IntN.{ℤ}
 use lib.Signed.{ltZ, _≤ℤ_}
 use Rattle.integers.specs.Linear.{line}
 use Rattle.tables.specs.Constants.{stabilityPasses}
-use Rattle.lsp.specs.declared.Stabilised.{Stabilised}
-use Rattle.lsp.specs.Lsps.{gap, short, spread, passTo, pass, passMoves, anyTo, anyShort, passes, stabilised}
+use Rattle.stability.specs.declared.Stabilised.{Stabilised}
+use Rattle.stability.specs.Stability.{gap, short, spread, passTo, pass, passMoves, anyTo, anyShort, passes, stabilised}
 
 -- each of the nine gaps is at least m
 pub record Spaced (m : ℤ) (p : List ℤ) : Type 0 where

@@ -3,8 +3,8 @@ use mir.Syntax.{w32}
 use mir.Val.{SFits}
 use Rattle.integers.specs.Signed.{widen, add-fits, mean-fits}
 use Rattle.integers.specs.Expression.{is-arg, is-cast, is-add, is-shr, need-cast, need-add}
-use Rattle.lsp.proofs.midpoint.Statement.{statement}
-use Rattle.lsp.proofs.midpoint.Tie as tie
+use Rattle.stability.proofs.midpoint.Statement.{statement}
+use Rattle.stability.proofs.midpoint.Tie as tie
 
 sum-fits : (s : tie.Start) → SFits w32 (s .args .a +ℤ s .args .b)
 sum-fits s = add-fits (s .args .a) (s .args .b) (s .fits .a) (s .fits .b) tt

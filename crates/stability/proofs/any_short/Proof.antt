@@ -9,10 +9,10 @@ use mir.Val.{toZ, ofZ}
 use mir.Facts.{toZ-ofZ}
 use Rattle.integers.specs.Base.{entry}
 use Rattle.integers.specs.Signed.{read-back}
-use Rattle.lsp.specs.Lsps.{short, anyTo}
-use Rattle.lsp.proofs.Passes.{any-zero, any-step}
-use Rattle.lsp.proofs.any_short.Statement.{statement}
-use Rattle.lsp.proofs.any_short.Tie as tie
+use Rattle.stability.specs.Stability.{short, anyTo}
+use Rattle.stability.proofs.Passes.{any-zero, any-step}
+use Rattle.stability.proofs.any_short.Statement.{statement}
+use Rattle.stability.proofs.any_short.Tie as tie
 
 abbrev Inv-loop : tie.InvT-loop
 Inv-loop minimum p found₀ j₀ found j = (j ≤ 9) × (found ≡ anyTo (short (toZ w16 minimum) p) j)

@@ -4,10 +4,10 @@ use native.Mathlib.Omega.{arith}
 use mir.Syntax.{w16}
 use mir.Val.{toZ, ofZ}
 use mir.Facts.{toZ-ofZ}
-use Rattle.lsp.specs.Lsps.{short, passTo, anyTo}
-use Rattle.lsp.proofs.Passes.{pass-zero, pass-step, any-zero, any-step}
-use Rattle.lsp.proofs.one_pass.Statement.{statement}
-use Rattle.lsp.proofs.one_pass.Tie as tie
+use Rattle.stability.specs.Stability.{short, passTo, anyTo}
+use Rattle.stability.proofs.Passes.{pass-zero, pass-step, any-zero, any-step}
+use Rattle.stability.proofs.one_pass.Statement.{statement}
+use Rattle.stability.proofs.one_pass.Tie as tie
 
 abbrev Inv-loop : tie.InvT-loop
 Inv-loop minimum s₀ j₀ s j =

@@ -7,10 +7,10 @@ use lib.IntN.{ℤ}
 use mir.Syntax.{w16}
 use mir.Val.{toZ, ofZ}
 use mir.Facts.{toZ-ofZ}
-use Rattle.lsp.specs.Lsps.{passes, stabilised}
-use Rattle.lsp.proofs.Passes.{passes-on, passes-off, passes-end}
-use Rattle.lsp.proofs.lsp_stability.Statement.{statement}
-use Rattle.lsp.proofs.lsp_stability.Tie as tie
+use Rattle.stability.specs.Stability.{passes, stabilised}
+use Rattle.stability.proofs.Passes.{passes-on, passes-off, passes-end}
+use Rattle.stability.proofs.lsp_stability.Statement.{statement}
+use Rattle.stability.proofs.lsp_stability.Tie as tie
 
 abbrev Inv-loop : tie.InvT-loop
 Inv-loop minimum q₀ n₀ q n = passes (toZ w16 minimum) 10 q₀ ≡ passes (toZ w16 minimum) (10 - n) q

@@ -6,7 +6,7 @@ use Prim.Native.Nat.{ℕ, suc, _+_, _-_, _<_, _≤_}
 use native.Mathlib.Numerals.{add-one}
 use native.Mathlib.Omega.{arith}
 use lib.IntN.{ℤ}
-use Rattle.lsp.specs.Lsps.{short, spread, passTo, anyTo, pass, passMoves, anyShort, passes}
+use Rattle.stability.specs.Stability.{short, spread, passTo, anyTo, pass, passMoves, anyShort, passes}
 
 pub pass-zero : (m : ℤ) (p : List ℤ) → passTo m p 0 ≡ p
 unfolding passTo
