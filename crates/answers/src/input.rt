@@ -118,7 +118,7 @@ pub(crate) fn number64(w: Word) -> i64 {
 }
 
 pub(crate) fn number32(w: Word) -> i32 {
-    basicop::sat32(number64(w))
+    basicop32::sat32(number64(w))
 }
 
 pub(crate) fn number16(w: Word) -> i16 {

@@ -1,4 +1,4 @@
-// Questions to crates lsp and lpc.
+// Questions to crates stability, lsp and lpc.
 use crate::input::Cursor;
 use crate::input::Word;
 use crate::input::next_list;
@@ -27,13 +27,13 @@ fn led(buf: &mut [u8], n: u64, lead: Word, c: Cursor) -> Cursor {
     let mut p = [0i16; 10];
     let k = next_list(buf, c, &mut p);
     if n == names::LSP_STABILITY {
-        print_stabilised(lsp::lsp_stability(p, number16(lead)));
+        print_stabilised(stability::lsp_stability(p, number16(lead)));
         return k;
     }
     let mut q = [0i16; 10];
     let l = next_list(buf, k, &mut q);
     if n == names::LSP_CHECK_OR_PREVIOUS {
-        print_ten(lsp::lsp_check_or_previous(p, q, number16(lead)));
+        print_ten(stability::lsp_check_or_previous(p, q, number16(lead)));
     } else {
         print_ten(lsp::lsp_interpolate(lead.size as usize, p, q));
     }

@@ -1,4 +1,4 @@
-// Questions to crate basicop.
+// Questions to crates basicop, basicop32 and root.
 use crate::input::Cursor;
 use crate::input::Read;
 use crate::input::Word;
@@ -21,7 +21,7 @@ fn binary16(n: u64, a: i16, b: i16) {
     } else if n == names::MULT {
         print16(basicop::mult(a, b));
     } else {
-        print32(basicop::l_mult(a, b));
+        print32(basicop32::l_mult(a, b));
     }
 }
 
@@ -37,15 +37,15 @@ fn shift(n: u64, a: i16, count: i32) {
 // One operand.
 fn unary(n: u64, w: Word) {
     if n == names::ISQRT64 {
-        print64(basicop::isqrt64(w.size) as u64);
+        print64(root::isqrt64(w.size) as u64);
     } else if n == names::SAT32 {
-        print32(basicop::sat32(number64(w)));
+        print32(basicop32::sat32(number64(w)));
     } else if n == names::SATURATE {
         print16(basicop::saturate(number32(w)));
     } else if n == names::EXTRACT_H {
-        print16(basicop::extract_h(number32(w)));
+        print16(basicop32::extract_h(number32(w)));
     } else {
-        print16(basicop::round16(number32(w)));
+        print16(basicop32::round16(number32(w)));
     }
 }
 
@@ -76,10 +76,10 @@ fn several(buf: &mut [u8], n: u64, first: Read) -> Cursor {
     } else if is_shift(n) {
         shift(n, number16(a), number32(b));
     } else if n == names::L_ADD {
-        print32(basicop::l_add(number32(a), number32(b)));
+        print32(basicop32::l_add(number32(a), number32(b)));
     } else if n == names::L_MAC {
         let third = next_word(buf, end);
-        print32(basicop::l_mac(number32(a), number16(b), number16(third.word)));
+        print32(basicop32::l_mac(number32(a), number16(b), number16(third.word)));
         end = third.cursor;
     } else {
         unknown();

@@ -77,7 +77,7 @@ pub(crate) fn print_sets(a: [[i16; 10]; 4]) {
 }
 
 // Whether LSPs passed, and the LSPs.
-pub(crate) fn print_stabilised(s: lsp::Stabilised) {
+pub(crate) fn print_stabilised(s: stability::Stabilised) {
     signed(if s.passed { 1 } else { 0 });
     let p = s.lsps;
     list(&p, false);

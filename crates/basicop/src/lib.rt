@@ -1,10 +1,9 @@
-// The basic operators of ITU-T G.191 that the decoder calls, under the Rust's names (basicop.rs; sat32 is of qdec.rs).
+// The basic operators of ITU-T G.191 on 16 bits that the decoder calls, under the Rust's names (basicop.rs).
 ghost use mathlib.Core.Path.{_≡_};
 ghost use Prim.Native.Nat.{_^_};
 ghost use lib.IntN.{pos, natAbs, _*ℤ_};
 ghost use Rattle.integers.specs.Base.{floorDiv};
-ghost use Rattle.basicop.specs.Operators.{word16, word32, add16, sub16, mult16, shl16, shr16, add32, mult32, mac32, high16, rounded16};
-ghost use Rattle.basicop.specs.Root.{root};
+ghost use Rattle.basicop.specs.Operators.{word16, add16, sub16, mult16, shl16, shr16};
 
 pub fn saturate(x: i32) -> i16
     ensures { λ r. ⌜ r ≡ word16 x ⌝ }
@@ -15,18 +14,6 @@ pub fn saturate(x: i32) -> i16
         -32768
     } else {
         x as i16
-    }
-}
-
-pub fn sat32(x: i64) -> i32
-    ensures { λ r. ⌜ r ≡ word32 x ⌝ }
-{
-    if x > 2147483647 {
-        2147483647
-    } else if x < -2147483648 {
-        -2147483648
-    } else {
-        x as i32
     }
 }
 
@@ -103,59 +90,4 @@ pub fn shr(a: i16, n: i32) -> i16
     } else {
         scaled_down(a, count_size(n))
     }
-}
-
-pub fn l_add(a: i32, b: i32) -> i32
-    ensures { λ r. ⌜ r ≡ add32 a b ⌝ }
-{
-    sat32(a as i64 + b as i64)
-}
-
-pub fn l_mult(a: i16, b: i16) -> i32
-    ensures { λ r. ⌜ r ≡ mult32 a b ⌝ }
-{
-    sat32(a as i64 * b as i64 * 2)
-}
-
-pub fn l_mac(acc: i32, a: i16, b: i16) -> i32
-    ensures { λ r. ⌜ r ≡ mac32 acc a b ⌝ }
-{
-    l_add(acc, l_mult(a, b))
-}
-
-pub fn extract_h(a: i32) -> i16
-    ensures { λ r. ⌜ r ≡ high16 a ⌝ }
-{
-    (a >> 16) as i16
-}
-
-pub fn round16(a: i32) -> i16
-    ensures { λ r. ⌜ r ≡ rounded16 a ⌝ }
-{
-    extract_h(l_add(a, 32768))
-}
-
-// A bit of the root in each turn, from the highest: `bit` is the square of the root's next bit, x is what the square of the
-// root so far leaves of v, and r is that root times twice its next bit.
-pub fn isqrt64(v: u64) -> u32
-    ensures { λ r. ⌜ r ≡ root v ⌝ }
-{
-    if v == 0 {
-        return 0;
-    }
-    let mut x = v;
-    let mut r: u64 = 0;
-    // The highest power of four that is at most v.
-    let mut bit: u64 = 1 << (62 - u64::leading_zeros(v) / 2 * 2);
-    while bit != 0 {
-        let t = r + bit;
-        if t <= x {
-            x -= t;
-            r = r / 2 + bit;
-        } else {
-            r = r / 2;
-        }
-        bit = bit / 4;
-    }
-    r as u32
 }

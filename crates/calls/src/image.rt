@@ -26,9 +26,9 @@ fn bits(bytes: &[u8; 1300], k: usize) -> u32 {
 fn number(bytes: &[u8; 1300], k: usize) -> i32 {
     let n = bits(bytes, k) as i64;
     if n < 2147483648 {
-        basicop::sat32(n)
+        basicop32::sat32(n)
     } else {
-        basicop::sat32(n - 4294967296)
+        basicop32::sat32(n - 4294967296)
     }
 }
 

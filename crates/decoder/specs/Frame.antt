@@ -6,7 +6,8 @@ use lib.IntN.{ℤ, pos}
 use lib.ListN.{drop}
 use Rattle.integers.specs.Base.{up}
 use Rattle.tables.specs.Constants.{frameSize, classifierHistory, lspMinimum, lspMinimumErased}
-use Rattle.lsp.specs.Lsps.{checkOrPrevious, extrapolated}
+use Rattle.stability.specs.Stability.{checkOrPrevious}
+use Rattle.lsp.specs.Lsps.{extrapolated}
 use Rattle.lpc.specs.Lpc.{frameCoefficients}
 use Rattle.excitation.specs.Excitation.{place, withSubframe, inTurn, limitedSum, tapSum, unvoicedGain}
 use Rattle.excitation.specs.declared.Subframe.{Subframe}

@@ -135,7 +135,11 @@ fn decode_erased(samples: &mut [i16], given: State) -> State
     let run = erasure::next_run(given.erased_run);
     let prev = given.prev_lsp;
     let candidates = lsp::lsp_extrapolate(prev);
-    let lsps = lsp::lsp_check_or_previous(candidates, prev, tables::LSP_DELTA_MIN_ERASURE_Q15);
+    let lsps = stability::lsp_check_or_previous(
+        candidates,
+        prev,
+        tables::LSP_DELTA_MIN_ERASURE_Q15,
+    );
     let pcm = given.pcm_hist;
     let class = voicing::classify_erasure_voicing(&pcm, given.last_lag2 as u8);
     let tap_sum = given.last_taps_sum_q15 as i16;
@@ -163,7 +167,7 @@ fn decode_received(samples: &mut [i16], given: State, rate: Rate, record: &[u8])
 {
     let prev = given.prev_lsp;
     let candidates = record::candidate_lsps(record);
-    let lsps = lsp::lsp_check_or_previous(candidates, prev, tables::LSP_DELTA_MIN_Q15);
+    let lsps = stability::lsp_check_or_previous(candidates, prev, tables::LSP_DELTA_MIN_Q15);
     let b0 = record::read_block(record, rate, Subframe::Zero);
     let b1 = record::read_block(record, rate, Subframe::One);
     let b2 = record::read_block(record, rate, Subframe::Two);

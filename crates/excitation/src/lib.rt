@@ -28,7 +28,7 @@ pub fn subframe_place(s: Subframe) -> usize
 fn limited_sample(u: i32, v: i32) -> i16
     ensures { λ r. ⌜ r ≡ word16 (u +ℤ v) ⌝ }
 {
-    basicop::saturate(basicop::l_add(u, v))
+    basicop::saturate(basicop32::l_add(u, v))
 }
 
 // The excitation of a subframe.

@@ -14,7 +14,7 @@ use Rattle.integers.specs.Linear.{line, mul-pos, line-add, line-mul, line-shr, 
 use Rattle.integers.specs.Fill.{tabulate-ext}
 use Rattle.integers.specs.Saturation.{saturated-same}
 use Rattle.tables.specs.Constants.{quarter}
-use Rattle.basicop.specs.Operators.{word32, mult32, mac32, rounded16}
+use Rattle.basicop32.specs.Operators32.{word32, mult32, mac32, rounded16}
 use Rattle.lsp.specs.Lsps.{weightedMean, blend}
 
 -- a multiple of a 16-bit number

@@ -1,3 +1,1 @@
 pub mod Blends
-pub mod Values
-pub mod Passes

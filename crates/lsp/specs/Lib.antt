@@ -1,2 +1,1 @@
 pub mod Lsps
-pub mod Gaps

@@ -8,7 +8,7 @@ use native.Mathlib.Omega.{arith}
 use borrow.Author.Tests.{le-leb, lt-leb}
 use lib.Dec.{lit<}
 use Rattle.integers.specs.Natural.{le-or-lt}
-use Rattle.basicop.specs.Root.{root, root-is}
+use Rattle.root.specs.Root.{root, root-is}
 use Rattle.pitch.specs.Pitch.{gain}
 
 -- ---- products of three sums

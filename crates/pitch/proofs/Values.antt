@@ -6,7 +6,7 @@ use Prim.Native.Nat.{ℕ}
 use lib.Dec.{lit≤, lit<}
 use lib.IntN.{ℤ, pos, negsuc}
 use Rattle.integers.specs.Base.{sumTo}
-use Rattle.basicop.specs.Root.{root-unique}
+use Rattle.root.specs.Root.{root-unique}
 use Rattle.correlation.specs.Correlation.{correlation}
 use Rattle.pitch.specs.Pitch.{counts, unexceeded, firstUnexceeded, bestOf, chosen, gain, weight, unchanged, mixedSample, level, levelSample, postfiltered}
 use Rattle.pitch.specs.declared.Direction.the-variants.{Forward, Backward}

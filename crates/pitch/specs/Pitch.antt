@@ -7,7 +7,7 @@ use lib.IntN.{ℤ, pos, natAbs, _+ℤ_, _*ℤ_}
 use lib.Signed.{ltZ}
 use Rattle.integers.specs.Base.{floorDiv, entry, tabulate}
 use Rattle.tables.specs.Constants.{subframeSize, frameSize, excHist, lagReach, ltpGammaHigh, ltpGammaLow, pitchGate}
-use Rattle.basicop.specs.Root.{root}
+use Rattle.root.specs.Root.{root}
 use Rattle.correlation.specs.Correlation.{correlation, energy}
 use Rattle.pitch.specs.declared.Direction.{Direction}
 use Rattle.pitch.specs.declared.Direction.the-variants.{Forward, Backward}

@@ -94,7 +94,7 @@ fn gain_target(e: u64, f: u64) -> i32
     if f == 0 {
         return tables::AGC_ONE_Q12;
     }
-    let root = basicop::isqrt64(e * 0x100_0000 / f);
+    let root = root::isqrt64(e * 0x100_0000 / f);
     if root < tables::AGC_GAIN_MAX_Q12 as u32 {
         root as i32
     } else {
@@ -114,7 +114,7 @@ fn gained_sample(g: i32, z: i16) -> i16
     ensures { λ r. ⌜ r ≡ gainedSample g z ⌝ }
 {
     let q = (z as i64 * g as i64 * tables::AGC_BOOST + 32768) >> 16;
-    basicop::saturate(basicop::sat32(q))
+    basicop::saturate(basicop32::sat32(q))
 }
 
 fn gained_subframe(t: i32, gain: i32, z: &[i16; 60]) -> Gained

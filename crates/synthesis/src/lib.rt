@@ -100,7 +100,7 @@ fn rounded_sample(acc: i64) -> i16
     requires { ⌜ Within (2 ^ 45) acc ⌝ }
     ensures { λ r. ⌜ r ≡ rounded acc ⌝ }
 {
-    basicop::saturate(basicop::sat32((acc + 4096) >> 13))
+    basicop::saturate(basicop32::sat32((acc + 4096) >> 13))
 }
 
 // One sample of synthesis.

@@ -7,7 +7,7 @@ use lib.Dec.{T, eqb}
 use lib.IntN.{ℤ, pos}
 use lib.ListN.{length}
 use Rattle.tables.specs.Constants.{frameSize, lspMinimum}
-use Rattle.lsp.specs.Lsps.{checkOrPrevious}
+use Rattle.stability.specs.Stability.{checkOrPrevious}
 use Rattle.excitation.specs.Excitation.{inTurn}
 use Rattle.pitch.specs.declared.Rate.{Rate}
 use Rattle.pitch.specs.declared.Rate.the-variants as rates

@@ -1,6 +1,6 @@
 -- The starred values, each computed in the crate of its definition.
-use Rattle.basicop.proofs.Values as basicop
-use Rattle.lsp.proofs.Values as lsp
+use Rattle.root.proofs.Values as root
+use Rattle.stability.proofs.Values as stability
 use Rattle.lpc.proofs.Values as lpc
 use Rattle.positions.proofs.Values as positions
 use Rattle.pulses.proofs.Values as pulses
@@ -13,9 +13,9 @@ starred-values = record {
   cosine-of-0 = lpc.cosine-of-0;
   cosine-of-64 = lpc.cosine-of-64;
   cosine-of-32767 = lpc.cosine-of-32767;
-  stabilised-1000-1100 = lsp.stabilised-1000-1100;
-  root-of-15 = basicop.root-of-15;
-  root-of-16 = basicop.root-of-16;
+  stabilised-1000-1100 = stability.stabilised-1000-1100;
+  root-of-15 = root.root-of-15;
+  root-of-16 = root.root-of-16;
   six-0 = positions.slots-of-six-0;
   six-118754 = positions.slots-of-six-118754;
   six-118755 = positions.slots-of-six-118755;

@@ -3,8 +3,8 @@ use mathlib.Core.Path.{_≡_}
 use mathlib.Core.Bool.{true, false}
 use mathlib.Core.List.{[], _∷_}
 use lib.IntN.{pos, negsuc}
-use Rattle.basicop.specs.Root.{root}
-use Rattle.lsp.specs.Lsps.{stabilised}
+use Rattle.root.specs.Root.{root}
+use Rattle.stability.specs.Stability.{stabilised}
 use Rattle.lpc.specs.Lpc.{cosine}
 use Rattle.positions.specs.Positions.{slots, positions}
 use Rattle.positions.specs.declared.Count.the-variants.{Five, Six}

@@ -10,7 +10,7 @@ use mir.Facts.{toZ-ofZ}
 use Rattle.integers.specs.Base.{up}
 use Rattle.integers.specs.Signed.{read-back, widen}
 use Rattle.integers.specs.Expression.{is-arg, is-cast, need-cast}
-use Rattle.lsp.specs.Lsps.{checkOrPrevious}
+use Rattle.stability.specs.Stability.{checkOrPrevious}
 use Rattle.voicing.specs.Voicing.{voicingOf}
 use Rattle.erasure.specs.Erasure.{erasedExcitation}
 use Rattle.state.specs.State.{frameSignal}

@@ -6,7 +6,7 @@ use mir.Syntax.{w32}
 use mir.Val.{toZ, ofZ}
 use Rattle.integers.specs.Base.{entry}
 use Rattle.integers.specs.Signed.{back}
-use Rattle.lsp.specs.Lsps.{checkOrPrevious}
+use Rattle.stability.specs.Stability.{checkOrPrevious}
 use Rattle.excitation.specs.Excitation.{tapSum, unvoicedGain}
 use Rattle.excitation.specs.declared.Subframe.{Subframe}
 use Rattle.excitation.specs.declared.Subframe.the-variants.{Zero, One, Two, Three}

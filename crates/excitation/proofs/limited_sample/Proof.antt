@@ -4,7 +4,8 @@ use lib.IntN.{ℤ, _+ℤ_}
 use mir.Syntax.{w16, w32}
 use mir.Facts.{toZ-ofZ}
 use Rattle.integers.specs.Signed.{back}
-use Rattle.basicop.specs.Operators.{word16, word32}
+use Rattle.basicop.specs.Operators.{word16}
+use Rattle.basicop32.specs.Operators32.{word32}
 use Rattle.integers.specs.Saturation.{saturated-twice}
 use Rattle.excitation.proofs.limited_sample.Statement.{statement}
 use Rattle.excitation.proofs.limited_sample.Tie as tie

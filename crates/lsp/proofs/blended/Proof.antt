@@ -7,7 +7,7 @@ use mir.Facts.{toZ-ofZ}
 use Rattle.integers.specs.Signed.{read-back, back}
 use Rattle.integers.specs.Base.{Fills, entry, tabulate}
 use Rattle.integers.specs.Fill.{fills-start, fills-next, fills-end}
-use Rattle.basicop.specs.Operators.{mult32, mac32, rounded16}
+use Rattle.basicop32.specs.Operators32.{mult32, mac32, rounded16}
 use Rattle.lsp.proofs.blended.Statement.{statement}
 use Rattle.lsp.proofs.blended.Tie as tie
 

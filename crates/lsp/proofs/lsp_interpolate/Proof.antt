@@ -5,7 +5,7 @@ use lib.IntN.{pos, ℤ}
 use Rattle.integers.specs.Base.{entry, tabulate}
 use Rattle.integers.specs.Signed.{all-fit}
 use Rattle.tables.specs.Constants.{quarter}
-use Rattle.basicop.specs.Operators.{mult32, mac32, rounded16}
+use Rattle.basicop32.specs.Operators32.{mult32, mac32, rounded16}
 use Rattle.lsp.specs.Lsps.{blend, interpolated}
 use Rattle.lsp.proofs.Blends.{blend-operators}
 use Rattle.lsp.proofs.lsp_interpolate.Statement.{statement}

@@ -3,7 +3,7 @@ use lib.IntN.{ℤ}
 use mir.Syntax.{w16, w32}
 use mir.Facts.{toZ-ofZ}
 use Rattle.integers.specs.Signed.{back}
-use Rattle.basicop.specs.Operators.{mult32, mac32, rounded16}
+use Rattle.basicop32.specs.Operators32.{mult32, mac32, rounded16}
 use Rattle.lsp.proofs.weighed.Statement.{statement}
 use Rattle.lsp.proofs.weighed.Tie as tie
 

@@ -7,7 +7,8 @@ use Rattle.integers.specs.Base.{floorDiv}
 use Rattle.integers.specs.Bound.{within-add, within-mul, within-num, within-fits, fits-within}
 use Rattle.integers.specs.Signed.{back, widen}
 use Rattle.integers.specs.Expression.{tree, is-arg, is-lit, is-cast, is-mul, is-shr, is-add}
-use Rattle.basicop.specs.Operators.{word16, word32}
+use Rattle.basicop.specs.Operators.{word16}
+use Rattle.basicop32.specs.Operators32.{word32}
 use Rattle.integers.specs.Saturation.{saturated-twice}
 use Rattle.postfilter.proofs.gained_sample.Statement.{statement}
 use Rattle.postfilter.proofs.gained_sample.Tie as tie

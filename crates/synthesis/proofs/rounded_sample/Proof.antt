@@ -8,7 +8,8 @@ use Rattle.integers.specs.Bound.{within-add, within-num, fits-within}
 use Rattle.integers.specs.Signed.{back}
 use Rattle.integers.specs.Expression.{is-arg, is-lit, is-shr, is-add, need-add}
 use Rattle.integers.specs.Saturation.{saturated-twice}
-use Rattle.basicop.specs.Operators.{word16, word32}
+use Rattle.basicop.specs.Operators.{word16}
+use Rattle.basicop32.specs.Operators32.{word32}
 use Rattle.synthesis.proofs.rounded_sample.Statement.{statement}
 use Rattle.synthesis.proofs.rounded_sample.Tie as tie
 
