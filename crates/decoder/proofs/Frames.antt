@@ -12,7 +12,7 @@ use Rattle.integers.specs.Lent.{lent}
 use Rattle.excitation.specs.Excitation.{inTurn}
 use Rattle.excitation.specs.declared.Subframe.{Subframe}
 use Rattle.excitation.specs.declared.Subframe.the-variants.{Zero, One, Two, Three}
-use Rattle.pitch.specs.declared.Rate.{Rate}
+use Rattle.excitation.specs.declared.Rate.{Rate}
 use Rattle.decoder.specs.Frame.{pitchInputs, plainInputs, subframeHeard, filtersAfter, filtersAt, heardTo}
 use Rattle.decoder.specs.declared.Filters.{Filters}
 use Rattle.decoder.proofs.Subframes.{heard-length}

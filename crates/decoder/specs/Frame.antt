@@ -11,9 +11,9 @@ use Rattle.lpc.specs.Lpc.{frameCoefficients}
 use Rattle.excitation.specs.Excitation.{place, withSubframe, inTurn, limitedLag, adaptive, limitedSum, tapSum, unvoicedGain}
 use Rattle.excitation.specs.declared.Subframe.{Subframe}
 use Rattle.excitation.specs.declared.Subframe.the-variants.{Zero, One, Two, Three}
+use Rattle.excitation.specs.declared.Rate.{Rate}
 use Rattle.synthesis.specs.Synthesis.{synthesised, memoryAfter}
 use Rattle.pitch.specs.Pitch.{unchanged, postfiltered}
-use Rattle.pitch.specs.declared.Rate.{Rate}
 use Rattle.postfilter.specs.Postfilter.{filtered, postfilterAfter}
 use Rattle.voicing.specs.Voicing.{voicingOf}
 use Rattle.erasure.specs.Erasure.{nextRun, erasedExcitation}

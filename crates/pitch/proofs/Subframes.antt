@@ -8,9 +8,9 @@ use lib.Dec.{ltb, eqb}
 use lib.IntN.{ℤ, pos, natAbs}
 use Rattle.integers.specs.Base.{entry, tabulate}
 use Rattle.correlation.specs.Correlation.{energy}
+use Rattle.excitation.specs.declared.Rate.{Rate}
 use Rattle.pitch.specs.Pitch.{window, bestLag, chosen, weight, unchanged, mixed, level, levelSample, levelled, applied, postfiltered}
 use Rattle.pitch.specs.declared.Direction.the-variants.{Forward, Backward}
-use Rattle.pitch.specs.declared.Rate.{Rate}
 use Rattle.pitch.specs.declared.Best.{Best}
 use Rattle.pitch.specs.declared.Best.the-variants.{None, Lag}
 use Rattle.pitch.specs.declared.Choice.{Choice}

@@ -8,10 +8,10 @@ use lib.IntN.{ℤ, pos, negsuc}
 use Rattle.integers.specs.Base.{sumTo}
 use Rattle.basicop.specs.Root.{root-unique}
 use Rattle.correlation.specs.Correlation.{correlation}
+use Rattle.excitation.specs.declared.Rate.{Rate}
+use Rattle.excitation.specs.declared.Rate.the-variants.{High, Low}
 use Rattle.pitch.specs.Pitch.{counts, unexceeded, firstUnexceeded, bestOf, chosen, gain, weight, unchanged, mixedSample, level, levelSample, postfiltered}
 use Rattle.pitch.specs.declared.Direction.the-variants.{Forward, Backward}
-use Rattle.pitch.specs.declared.Rate.{Rate}
-use Rattle.pitch.specs.declared.Rate.the-variants.{High, Low}
 use Rattle.pitch.specs.declared.Best.the-variants.{None, Lag}
 
 -- ---- the search

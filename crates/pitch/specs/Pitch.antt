@@ -9,10 +9,10 @@ use Rattle.integers.specs.Base.{floorDiv, entry, tabulate}
 use Rattle.tables.specs.Constants.{subframeSize, frameSize, excHist, lagReach, ltpGammaHigh, ltpGammaLow, pitchGate}
 use Rattle.basicop.specs.Root.{root}
 use Rattle.correlation.specs.Correlation.{correlation, energy}
+use Rattle.excitation.specs.declared.Rate.{Rate}
+use Rattle.excitation.specs.declared.Rate.the-variants.{High, Low}
 use Rattle.pitch.specs.declared.Direction.{Direction}
 use Rattle.pitch.specs.declared.Direction.the-variants.{Forward, Backward}
-use Rattle.pitch.specs.declared.Rate.{Rate}
-use Rattle.pitch.specs.declared.Rate.the-variants.{High, Low}
 use Rattle.pitch.specs.declared.Best.{Best}
 use Rattle.pitch.specs.declared.Best.the-variants.{None, Lag}
 use Rattle.pitch.specs.declared.Choice.{Choice}

@@ -9,6 +9,7 @@ ghost use Rattle.correlation.specs.Correlation.{energy};
 ghost use Rattle.excitation.specs.Excitation.{place, limitedLag};
 ghost use Rattle.pitch.specs.Pitch.{window, lagEnergy, bestOf, chosen, gain, gamma, weight, unchanged, mixedSample, mixed, level, levelSample, levelled, applied, postfiltered};
 ghost use Rattle.pitch.specs.Search.{next, beats, Small, Leads, Inside};
+use excitation::Rate;
 use excitation::Subframe;
 use wide::Wide;
 
@@ -16,12 +17,6 @@ use wide::Wide;
 pub enum Direction {
     Forward,
     Backward,
-}
-
-// 6.3 or 5.3 kbit/s.
-pub enum Rate {
-    High,
-    Low,
 }
 
 // No lag, or a lag with its correlation and its energy, both above 0.
