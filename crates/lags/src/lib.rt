@@ -157,7 +157,7 @@ fn best_lag(x: &[i16], to: Direction, p: usize, lo: usize) -> Best
 fn metric(c: u64, d: u64) -> Wide
     ensures { λ r. ⌜ value r ≡ c * c / d ⌝ }
 {
-    wide::divide(wide::product(c, c), Wide { hi: 0, lo: d })
+    quotient::divide(wide::product(c, c), Wide { hi: 0, lo: d })
 }
 
 fn chosen_direction(f: Best, b: Best) -> Choice

@@ -117,7 +117,7 @@ fn level_q15(t: u64, e: u64) -> u32
     ensures { λ r. ⌜ r ≡ level t e ⌝ }
     ensures { λ r. ⌜ r ≤ 32768 ⌝ }
 {
-    let ratio = wide::divide(wide::product(t, 0x4000_0000), Wide { hi: 0, lo: e });
+    let ratio = quotient::divide(wide::product(t, 0x4000_0000), Wide { hi: 0, lo: e });
     basicop::isqrt64(ratio.lo)
 }
 

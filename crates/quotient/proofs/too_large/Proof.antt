@@ -1,13 +1,13 @@
--- `wide::too_large` meets its contract: a remainder of more than a digit is above every product of two digits. Assumes nothing.
+-- `quotient::too_large` meets its contract: a remainder of more than a digit is above every product of two digits. Assumes nothing.
 use mathlib.Core.Path.{sym, ap}
 use Prim.Native.Nat.{_+_, _*_, _^_}
 use native.Mathlib.Omega.{arith}
 use lib.Dec.{ltb}
 use borrow.Author.Tests.{lt-ltb, le-ltb}
 use borrow.Author.Needs.{needs}
-use Rattle.wide.proofs.Estimates.{product-le}
-use Rattle.wide.proofs.too_large.Statement.{statement}
-use Rattle.wide.proofs.too_large.Tie as tie
+use Rattle.quotient.proofs.Estimates.{product-le}
+use Rattle.quotient.proofs.too_large.Statement.{statement}
+use Rattle.quotient.proofs.too_large.Tie as tie
 
 returns : tie.Need-returns
 returns c = let s = c .before in sym (lt-ltb _ _ (s .pre (c .if1 .taken)))

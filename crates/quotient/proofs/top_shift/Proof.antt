@@ -1,12 +1,12 @@
--- `wide::top_shift` meets its contract: v is not 0, so it has a highest bit k, and k + 1 with the leading zeros is 64. Assumes nothing.
+-- `quotient::top_shift` meets its contract: v is not 0, so it has a highest bit k, and k + 1 with the leading zeros is 64. Assumes nothing.
 use mathlib.Core.Path.{_≡_, subst}
 use Prim.Native.Nat.{ℕ, suc, _+_, _*_, _^_, _≤_, _<_}
 use native.Mathlib.Nat.{le-trans, le-of-eq, mul-le-mul-right}
 use native.Mathlib.Omega.{arith}
 use lib.Pow.{pow-add, shl-lt}
 use lib.Count.{leadingZeros, leading-top}
-use Rattle.wide.proofs.top_shift.Statement.{statement}
-use Rattle.wide.proofs.top_shift.Tie as tie
+use Rattle.quotient.proofs.top_shift.Statement.{statement}
+use Rattle.quotient.proofs.top_shift.Tie as tie
 
 shifted-top : (a k s : ℕ) → 2 ^ k ≤ a → a < 2 ^ suc k → s + suc k ≡ 64 → (s < 64) × (2 ^ 63 ≤ a * 2 ^ s) × (a * 2 ^ s < 2 ^ 64)
 shifted-top a k s low high e = (

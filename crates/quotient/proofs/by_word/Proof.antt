@@ -1,16 +1,15 @@
--- `wide::by_word` meets its contract: both numbers times a power of two have the same quotient. Assumes nothing.
+-- `quotient::by_word` meets its contract: both numbers times a power of two have the same quotient. Assumes nothing.
 use mathlib.Core.Path.{_≡_, sym, _∙_, subst}
 use Prim.Native.Nat.{ℕ, _*_, _/_, _%_, _^_, _≤_, _<_}
 use native.Mathlib.Nat.{le-of-lt, mul-le-mul-right, mul-div-mul-right, mod-eq-of-lt}
 use native.Mathlib.Omega.{arith}
 use lib.Pow.{pow-pos}
 use borrow.Author.Needs.{needs}
 use Rattle.wide.specs.Value.{value}
-use Rattle.wide.proofs.Pairs.{high-lt}
-use Rattle.wide.proofs.Shifts.{exact}
-use Rattle.wide.proofs.Estimates.{quotient-is}
-use Rattle.wide.proofs.by_word.Statement.{statement}
-use Rattle.wide.proofs.by_word.Tie as tie
+use Rattle.quotient.proofs.Shifts.{high-lt, exact}
+use Rattle.quotient.proofs.Estimates.{quotient-is}
+use Rattle.quotient.proofs.by_word.Statement.{statement}
+use Rattle.quotient.proofs.by_word.Tie as tie
 
 top-shift-requires : tie.Need-top-shift-requires
 top-shift-requires c κs = search needs

@@ -1,4 +1,4 @@
--- `wide::digit` meets its contract. Each turn takes one off an estimate that is too large, and the last one is the quotient. The measure is the estimate.
+-- `quotient::digit` meets its contract. Each turn takes one off an estimate that is too large, and the last one is the quotient. The measure is the estimate.
 -- Assumes nothing.
 use mathlib.Core.Path.{_≡_, sym, ap, _∙_, subst}
 use Prim.Native.Nat.{ℕ, _+_, _*_, _-_, _/_, _%_, _^_, _≤_, _<_}
@@ -6,9 +6,9 @@ use native.Mathlib.Nat.{div-add-mod', mod-lt}
 use native.Mathlib.Omega.{arith}
 use borrow.Author.Needs.{needs}
 use borrow.Author.Tests.{ltb-true, ltb-false}
-use Rattle.wide.proofs.Estimates.{Estimate, digit-lt, difference, first, positive, next, right, long}
-use Rattle.wide.proofs.digit.Statement.{statement}
-use Rattle.wide.proofs.digit.Tie as tie
+use Rattle.quotient.proofs.Estimates.{Estimate, digit-lt, difference, first, positive, next, right, long}
+use Rattle.quotient.proofs.digit.Statement.{statement}
+use Rattle.quotient.proofs.digit.Tie as tie
 
 abbrev Inv-loop : tie.InvT-loop
 Inv-loop u l v v1 v0 q₀ r₀ q r = Estimate (2 ^ 32) u l v1 v0 q r

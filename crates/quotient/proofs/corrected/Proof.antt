@@ -1,13 +1,13 @@
--- `wide::corrected` meets its contract. Each turn takes one off an estimate that is too large; where the remainder leaves the word, the estimate is right. The measure is the estimate.
+-- `quotient::corrected` meets its contract. Each turn takes one off an estimate that is too large; where the remainder leaves the word, the estimate is right. The measure is the estimate.
 -- Assumes nothing.
 use mathlib.Core.Path.{refl, sym, _∙_, subst}
 use Prim.Native.Nat.{ℕ, _+_, _*_, _-_, _^_, _≤_, _<_}
 use native.Mathlib.Omega.{arith}
 use borrow.Author.Needs.{needs}
 use borrow.Author.Tests.{ltb-true, ltb-false}
-use Rattle.wide.proofs.Estimates.{Estimate, quotient-is, product-le, first, positive, next, right}
-use Rattle.wide.proofs.corrected.Statement.{statement}
-use Rattle.wide.proofs.corrected.Tie as tie
+use Rattle.quotient.proofs.Estimates.{Estimate, quotient-is, product-le, first, positive, next, right}
+use Rattle.quotient.proofs.corrected.Statement.{statement}
+use Rattle.quotient.proofs.corrected.Tie as tie
 
 abbrev Inv-loop : tie.InvT-loop
 Inv-loop l d q₀ r₀ q r = Estimate (2 ^ 64) (q₀ * d .hi + r₀) l (d .hi) (d .lo) q r × (q < 2 ^ 64) × (r < 2 ^ 64)

@@ -1,4 +1,4 @@
--- `wide::by_pair` meets its contract: both numbers times a power of two have the same quotient, and the quotient of the dividend's two high words by the divisor's high word is its first estimate.
+-- `quotient::by_pair` meets its contract: both numbers times a power of two have the same quotient, and the quotient of the dividend's two high words by the divisor's high word is its first estimate.
 -- Assumes nothing.
 use mathlib.Core.Path.{_≡_, ap, _∙_}
 use Prim.Native.Nat.{ℕ, _+_, _*_, _-_, _/_, _^_, _≤_, _<_}
@@ -6,11 +6,11 @@ use native.Mathlib.Nat.{le-refl, le-of-lt, le-trans, lt-of-lt-of-le, zero-add, m
 use native.Mathlib.Omega.{arith}
 use lib.Pow.{pow-pos, pow-mono}
 use borrow.Author.Needs.{needs}
 use Rattle.wide.specs.Value.{value}
-use Rattle.wide.proofs.Pairs.{high-lt}
-use Rattle.wide.proofs.Shifts.{power-split, exact, high-le-shifted, room, three-digits}
-use Rattle.wide.proofs.by_pair.Statement.{statement}
-use Rattle.wide.proofs.by_pair.Tie as tie
+use Rattle.wide.proofs.Shifts.{power-split, room, three-digits}
+use Rattle.quotient.proofs.Shifts.{high-lt, exact, high-le-shifted}
+use Rattle.quotient.proofs.by_pair.Statement.{statement}
+use Rattle.quotient.proofs.by_pair.Tie as tie
 
 top-shift-requires : tie.Need-top-shift-requires
 top-shift-requires c κs = search needs

@@ -1,13 +1,14 @@
--- `wide::divide` meets its contract: two words divide as they are, and a divisor of one word leaves a quotient of two words, the high one first. Assumes nothing.
+-- `quotient::divide` meets its contract: two words divide as they are, and a divisor of one word leaves a quotient of two words, the high one first. Assumes nothing.
 use mathlib.Core.Path.{_≡_, sym, ap, _∙_}
 use Prim.Native.Nat.{ℕ, _+_, _*_, _/_, _^_}
 use native.Mathlib.Nat.{mod-lt, zero-add}
 use native.Mathlib.Omega.{arith}
 use borrow.Author.Needs.{needs}
-use Rattle.wide.specs.Value.{value, quotient-by-zero}
-use Rattle.wide.proofs.Estimates.{pair-quotient}
-use Rattle.wide.proofs.divide.Statement.{statement}
-use Rattle.wide.proofs.divide.Tie as tie
+use Rattle.wide.specs.Value.{value}
+use Rattle.quotient.specs.Quotient.{quotient-by-zero}
+use Rattle.quotient.proofs.Estimates.{pair-quotient}
+use Rattle.quotient.proofs.divide.Statement.{statement}
+use Rattle.quotient.proofs.divide.Tie as tie
 
 by-pair-requires : tie.Need-by-pair-requires
 by-pair-requires c κs = search needs
