@@ -1,4 +1,4 @@
-// Questions to crate wide.
+// Questions to crates wide and quotient.
 use crate::input::Cursor;
 use crate::input::Read;
 use crate::input::next_word;
@@ -33,7 +33,7 @@ fn binary(n: u64, a: Wide, b: Wide) {
     if n == names::WIDE_LESS {
         print64(if wide::less(a, b) { 1 } else { 0 });
     } else {
-        print_pair(wide::divide(a, b));
+        print_pair(quotient::divide(a, b));
     }
 }
 

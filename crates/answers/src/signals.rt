@@ -11,8 +11,8 @@ use crate::output::item;
 use crate::output::item16;
 use crate::output::list;
 use crate::output::print_sixty;
+use excitation::Rate;
 use excitation::Subframe;
-use pitch::Rate;
 use postfilter::Postfilter;
 
 pub(crate) fn is_signal(n: u64) -> bool {

@@ -7,7 +7,7 @@ use borrow.Author.Tests.{eq-eqb, ne-eqb}
 use lib.Dec.{eqb}
 use lib.ListN.{length}
 use lib.IntN.{ℤ}
-use Rattle.pitch.specs.declared.Rate.the-variants as rates
+use Rattle.excitation.specs.declared.Rate.the-variants as rates
 use Rattle.refusals.specs.Refusals.{numberOf, found}
 use Rattle.refusals.specs.declared.Refusal.{Refusal}
 use Rattle.refusals.specs.declared.Refusal.the-variants.{SampleLength, StateBounds}

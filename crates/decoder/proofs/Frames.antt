@@ -6,7 +6,7 @@ use lib.IntN.{ℤ}
 use Rattle.excitation.specs.Excitation.{inTurn}
 use Rattle.excitation.specs.declared.Subframe.{Subframe}
 use Rattle.excitation.specs.declared.Subframe.the-variants.{Zero, One, Two, Three}
-use Rattle.pitch.specs.declared.Rate.{Rate}
+use Rattle.excitation.specs.declared.Rate.{Rate}
 use Rattle.decoder.specs.Frame.{pitchInputs, plainInputs}
 
 -- in turn, each of what was made of the one before

@@ -14,7 +14,7 @@ use Rattle.excitation.specs.declared.Subframe.{Subframe}
 use Rattle.excitation.specs.declared.Subframe.the-variants.{Zero, One, Two, Three}
 use Rattle.adaptive.specs.Adaptive.{limitedLag, adaptive}
 use Rattle.pitch.specs.Pitch.{unchanged, postfiltered}
-use Rattle.pitch.specs.declared.Rate.{Rate}
+use Rattle.excitation.specs.declared.Rate.{Rate}
 use Rattle.output.specs.Output.{frameHeard, frameFilters}
 use Rattle.output.specs.declared.Filters.{Filters}
 use Rattle.voicing.specs.Voicing.{voicingOf}

@@ -12,6 +12,12 @@ pub enum Subframe {
     Three,
 }
 
+// 6.3 or 5.3 kbit/s.
+pub enum Rate {
+    High,
+    Low,
+}
+
 // The place of a subframe's first sample in the signal.
 pub fn subframe_place(s: Subframe) -> usize
     ensures { λ r. ⌜ r ≡ place s ⌝ }

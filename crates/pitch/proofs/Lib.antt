@@ -1,11 +1,5 @@
 -- Laws on which the proofs of this crate stand.
-pub mod Tests
-pub mod Squares
 pub mod Sizes
 pub mod Energies
-pub mod Choices
 pub mod Subframes
-pub mod Lags
-pub mod Searches
-pub mod Bests
 pub mod Values

@@ -1,20 +1,14 @@
--- Sizes of what the pitch postfilter computes: products of three sums, gains, levels.
+-- Sizes of what the pitch postfilter computes: gains, levels.
 use mathlib.Core.Path.{_≡_, sym, ap}
 use mathlib.Core.Bool.{Bool, cond}
 use mathlib.Core.Logic.{⊎-elim}
 use Prim.Native.Nat.{ℕ, _*_, _/_, _^_, _≤_, _<_}
-use native.Mathlib.Nat.{mul-le-mul, mul-le-mul-right, lt-of-le-of-lt, div-lt-iff-lt-mul, div-le-of-le-mul}
+use native.Mathlib.Nat.{mul-le-mul, mul-le-mul-right, div-lt-iff-lt-mul, div-le-of-le-mul}
 use native.Mathlib.Omega.{arith}
 use borrow.Author.Tests.{le-leb, lt-leb}
-use lib.Dec.{lit<}
 use Rattle.integers.specs.Natural.{le-or-lt}
 use Rattle.root.specs.Root.{root, root-is}
 use Rattle.pitch.specs.Pitch.{gain}
-
--- ---- products of three sums
-
-pub triple-fits : (a b c : ℕ) → a ≤ 2 ^ 36 → b ≤ 2 ^ 36 → c ≤ 2 ^ 37 → a * b * c < 2 ^ 128
-triple-fits a b c h k l = lt-of-le-of-lt (mul-le-mul {n₂ = 2 ^ 72} {m₂ = 2 ^ 37} (mul-le-mul {n₂ = 2 ^ 36} {m₂ = 2 ^ 36} h k) l) (lit< tt)
 
 -- ---- the gain, in its two cases
 

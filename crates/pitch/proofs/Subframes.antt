@@ -8,12 +8,12 @@ use lib.Dec.{ltb, eqb}
 use lib.IntN.{ℤ, pos, natAbs}
 use Rattle.integers.specs.Base.{entry, tabulate}
 use Rattle.correlation.specs.Correlation.{energy}
-use Rattle.pitch.specs.Pitch.{window, bestLag, chosen, weight, unchanged, mixed, level, levelSample, levelled, applied, postfiltered}
-use Rattle.pitch.specs.declared.Direction.the-variants.{Forward, Backward}
-use Rattle.pitch.specs.declared.Rate.{Rate}
-use Rattle.pitch.specs.declared.Best.{Best}
-use Rattle.pitch.specs.declared.Best.the-variants.{None, Lag}
-use Rattle.pitch.specs.declared.Choice.{Choice}
+use Rattle.excitation.specs.declared.Rate.{Rate}
+use Rattle.lags.specs.Lags.{window, chosenLag}
+use Rattle.lags.specs.declared.Best.{Best}
+use Rattle.lags.specs.declared.Best.the-variants.{None, Lag}
+use Rattle.lags.specs.declared.Choice.{Choice}
+use Rattle.pitch.specs.Pitch.{weight, unchanged, mixed, level, levelSample, levelled, applied, postfiltered}
 
 -- ---- brought to an energy
 
@@ -57,7 +57,7 @@ module _ (x : List ℤ) (rate : Rate) (p t : ℕ) (k : Choice) where
 
 module _ (x : List ℤ) (rate : Rate) (p lag t : ℕ) (is : pos t ≡ energy x p 60) where
   abbrev choice : Choice
-  choice = chosen (bestLag x Forward p lag) (bestLag x Backward p lag)
+  choice = chosenLag x p lag
 
   by-silence : (b : Bool) → eqb t 0 ≡ b → cond b (unchanged x p) (applied x rate p t choice) ≡ postfiltered x rate p lag
   unfolding postfiltered

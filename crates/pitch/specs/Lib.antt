@@ -1,2 +1,1 @@
 pub mod Pitch
-pub mod Search

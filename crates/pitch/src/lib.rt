@@ -1,206 +1,19 @@
 // The pitch postfilter of one subframe, under the Rust's name (qdec.rs).
 ghost use mathlib.Core.Path.{_≡_};
-ghost use Prim.Native.Nat.{_+_, _-_, _*_, _/_, _^_, _≤_, _<_};
+ghost use Prim.Native.Nat.{_+_, _*_, _^_, _≤_};
 ghost use lib.Dec.{ltb};
 ghost use lib.IntN.{pos, natAbs, _*ℤ_};
 ghost use Rattle.integers.specs.Base.{entry, tabulate, Within, AllWithin};
-ghost use Rattle.wide.specs.Value.{value};
 ghost use Rattle.correlation.specs.Correlation.{energy};
 ghost use Rattle.excitation.specs.Excitation.{place};
 ghost use Rattle.adaptive.specs.Adaptive.{limitedLag};
-ghost use Rattle.pitch.specs.Pitch.{window, lagEnergy, bestOf, chosen, gain, gamma, weight, unchanged, mixedSample, mixed, level, levelSample, levelled, applied, postfiltered};
-ghost use Rattle.pitch.specs.Search.{next, beats, Small, Leads, Inside};
+ghost use Rattle.lags.specs.Search.{Small, Inside};
+ghost use Rattle.pitch.specs.Pitch.{gain, gamma, weight, unchanged, mixedSample, mixed, level, levelSample, levelled, applied, postfiltered};
+use excitation::Rate;
 use excitation::Subframe;
+use lags::Best;
+use lags::Choice;
 use wide::Wide;
-
-// After the subframe, or before it.
-pub enum Direction {
-    Forward,
-    Backward,
-}
-
-// 6.3 or 5.3 kbit/s.
-pub enum Rate {
-    High,
-    Low,
-}
-
-// No lag, or a lag with its correlation and its energy, both above 0.
-pub enum Best {
-    None,
-    Lag { lag: usize, c: u64, d: u64 },
-}
-
-// The direction that was chosen, with its best lag.
-pub struct Choice {
-    pub to: Direction,
-    pub best: Best,
-}
-
-// The place of a lag's samples.
-fn window_place(to: Direction, p: usize, m: usize) -> usize
-    requires { ⌜ (m ≤ p) × (p ≤ 386) ⌝ }
-    ensures { λ r. ⌜ r ≡ window to p m ⌝ }
-{
-    match to {
-        Direction::Forward => p + m,
-        Direction::Backward => p - m,
-    }
-}
-
-// The square of a sample; 0 past the signal's end.
-fn square_at(x: &[i16], i: usize) -> u64
-    ensures { λ r. ⌜ pos r ≡ entry (now (x .entry)) i *ℤ entry (now (x .entry)) i ⌝ }
-    ensures { λ r. ⌜ r ≤ 2 ^ 30 ⌝ }
-{
-    if i < x.len() {
-        let v = x[i] as i32;
-        (v * v) as u64
-    } else {
-        0
-    }
-}
-
-// The energy of the sixty samples one further, from that of those at q: it differs by two squares.
-fn moved_energy(x: &[i16], to: Direction, q: usize, e: u64) -> u64
-    requires { ⌜ pos e ≡ energy (now x) q 60 ⌝ }
-    requires { ⌜ e ≤ 2 ^ 37 ⌝ }
-    requires { ⌜ (0 < q) × (q < 2 ^ 32) ⌝ }
-    ensures { λ r. ⌜ pos r ≡ energy (now (x .entry)) (next to q) 60 ⌝ }
-    ensures { λ r. ⌜ r ≤ e + 2 ^ 30 ⌝ }
-{
-    match to {
-        Direction::Forward => e + square_at(x, q + 60) - square_at(x, q),
-        Direction::Backward => e + square_at(x, q - 1) - square_at(x, q + 59),
-    }
-}
-
-// a * a * b, which has less than 128 bits.
-fn square_times(a: u64, b: u64) -> Wide
-    requires { ⌜ (a ≤ 2 ^ 36) × (b ≤ 2 ^ 37) ⌝ }
-    ensures { λ r. ⌜ value r ≡ a * a * b ⌝ }
-{
-    wide::times(wide::product(a, a), b)
-}
-
-// Whether c²/d is above that of the best so far, exactly.
-fn is_better(best: Best, c: u64, d: u64) -> bool
-    requires { ⌜ Small best ⌝ }
-    requires { ⌜ (c ≤ 2 ^ 36) × (d ≤ 2 ^ 37) ⌝ }
-    ensures { λ r. ⌜ r ≡ beats best c d ⌝ }
-{
-    match best {
-        Best::None => true,
-        Best::Lag {
-            lag: _,
-            c: bc,
-            d: bd,
-        } => wide::less(square_times(bc, d), square_times(c, bd)),
-    }
-}
-
-// The best of k + 1 lags from lo on, from that of k. The samples of the lag lo + k stand at q and have the energy d.
-fn offered(
-    x: &[i16],
-    to: Direction,
-    p: usize,
-    lo: usize,
-    k: usize,
-    q: usize,
-    d: u64,
-    best: Best,
-) -> Best
-    requires { ⌜ (lo + k < p) × (p ≤ 326) ⌝ }
-    requires { ⌜ q ≡ window to p (lo + k) ⌝ }
-    requires { ⌜ pos d ≡ lagEnergy (now x) to p (lo + k) ⌝ }
-    requires { ⌜ d ≤ 2 ^ 37 ⌝ }
-    requires { ⌜ Leads (now x) to p lo k best ⌝ }
-    requires { ⌜ Small best ⌝ }
-    ensures { λ r. ⌜ Leads (now (x .entry)) to p lo (k + 1) r ⌝ }
-    ensures { λ r. ⌜ Small r ⌝ }
-{
-    if 386 < q + 60 {
-        return best;
-    }
-    if d == 0 {
-        return best;
-    }
-    let s = correlation::correlate(x, p, x, q, 60);
-    if s <= 0 {
-        return best;
-    }
-    let c = s as u64;
-    if is_better(best, c, d) {
-        Best::Lag {
-            lag: lo + k,
-            c: c,
-            d: d,
-        }
-    } else {
-        best
-    }
-}
-
-// The best of the seven lags from lo on.
-fn best_lag(x: &[i16], to: Direction, p: usize, lo: usize) -> Best
-    requires { ⌜ (lo + 7 ≤ p) × (p ≤ 326) ⌝ }
-    ensures { λ r. ⌜ r ≡ bestOf (now (x .entry)) to p lo 7 ⌝ }
-    ensures { λ r. ⌜ Small r ⌝ }
-    ensures { λ r. ⌜ Inside to p r ⌝ }
-{
-    let mut best = Best::None;
-    let mut d = correlation::energy_from(x, window_place(to, p, lo), 60);
-    let mut k: usize = 0;
-    while k < 7 {
-        let q = window_place(to, p, lo + k);
-        let b = offered(x, to, p, lo, k, q, d, best);
-        best = b;
-        d = moved_energy(x, to, q, d);
-        k += 1;
-    }
-    best
-}
-
-// The floor of c²/d.
-fn metric(c: u64, d: u64) -> Wide
-    ensures { λ r. ⌜ value r ≡ c * c / d ⌝ }
-{
-    wide::divide(wide::product(c, c), Wide { hi: 0, lo: d })
-}
-
-fn chosen_direction(f: Best, b: Best) -> Choice
-    ensures { λ r. ⌜ r ≡ chosen f b ⌝ }
-{
-    match f {
-        Best::None => Choice {
-            to: Direction::Backward,
-            best: b,
-        },
-        Best::Lag { lag: _, c, d } => match b {
-            Best::None => Choice {
-                to: Direction::Forward,
-                best: f,
-            },
-            Best::Lag {
-                lag: _,
-                c: bc,
-                d: bd,
-            } => {
-                if wide::less(metric(c, d), metric(bc, bd)) {
-                    Choice {
-                        to: Direction::Backward,
-                        best: b,
-                    }
-                } else {
-                    Choice {
-                        to: Direction::Forward,
-                        best: f,
-                    }
-                }
-            }
-        },
-    }
-}
 
 // Whether 4 c² is less than d t: the prediction gain is below 1.25 dB.
 fn too_weak(c: u64, d: u64, t: u64) -> bool
@@ -305,7 +118,7 @@ fn level_q15(t: u64, e: u64) -> u32
     ensures { λ r. ⌜ r ≡ level t e ⌝ }
     ensures { λ r. ⌜ r ≤ 32768 ⌝ }
 {
-    let ratio = wide::divide(wide::product(t, 0x4000_0000), Wide { hi: 0, lo: e });
+    let ratio = quotient::divide(wide::product(t, 0x4000_0000), Wide { hi: 0, lo: e });
     root::isqrt64(ratio.lo)
 }
 
@@ -357,7 +170,7 @@ fn applied_choice(x: &[i16; 386], rate: Rate, p: usize, t: u64, k: Choice) -> [i
             if too_weak(c, d, t) {
                 return subframe(x, p);
             }
-            let q = window_place(to, p, m);
+            let q = lags::window_place(to, p as u16, m as u16);
             let w = weight_q15(rate, c, d);
             levelled_subframe(mixed_subframe(x, p, q, w), t)
         }
@@ -380,8 +193,5 @@ pub fn pitch_postfilter(signal: &[i16; 386], s: Subframe, lag: i32, rate: Rate) 
     if t == 0 {
         return subframe(signal, p);
     }
-    let lo = adaptive::limited_lag(lag) - tables::LAG_REACH as usize;
-    let f = best_lag(signal, Direction::Forward, p, lo);
-    let b = best_lag(signal, Direction::Backward, p, lo);
-    applied_choice(signal, rate, p, t, chosen_direction(f, b))
+    applied_choice(signal, rate, p, t, lags::chosen_lag(signal, s, lag))
 }

@@ -3,8 +3,8 @@ use Prim.Native.Nat.{_≤_}
 use lib.Dec.{lit≤}
 use Rattle.excitation.specs.declared.Subframe.{Subframe}
 use Rattle.excitation.specs.declared.Subframe.the-variants.{Zero, One, Two, Three}
-use Rattle.pitch.specs.declared.Rate.{Rate}
-use Rattle.pitch.specs.declared.Rate.the-variants.{High, Low}
+use Rattle.excitation.specs.declared.Rate.{Rate}
+use Rattle.excitation.specs.declared.Rate.the-variants.{High, Low}
 use Rattle.record.specs.Record.{blockPlace}
 
 pub place-bound : (rate : Rate) (s : Subframe) → blockPlace rate s ≤ 418

@@ -13,8 +13,8 @@ use Rattle.pulses.specs.Pulses.{vector}
 use Rattle.pulses.specs.declared.Description.{Description}
 use Rattle.excitation.specs.declared.Subframe.{Subframe}
 use Rattle.excitation.specs.declared.Subframe.the-variants.{Zero, One, Two, Three}
-use Rattle.pitch.specs.declared.Rate.{Rate}
-use Rattle.pitch.specs.declared.Rate.the-variants.{High, Low}
+use Rattle.excitation.specs.declared.Rate.{Rate}
+use Rattle.excitation.specs.declared.Rate.the-variants.{High, Low}
 use Rattle.record.specs.declared.Block.{Block}
 
 -- ---- bytes and values

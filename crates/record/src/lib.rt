@@ -2,8 +2,8 @@
 ghost use mathlib.Core.Path.{_≡_};
 ghost use Prim.Native.Nat.{_+_, _*_, _<_};
 ghost use Rattle.record.specs.Record.{byte, word, words, candidates, lagPlace, baseLag, lag, blockPlace, count, description, fixed, blockOf};
+use excitation::Rate;
 use excitation::Subframe;
-use pitch::Rate;
 use positions::Count;
 use pulses::Description;
 

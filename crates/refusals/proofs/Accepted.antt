@@ -6,8 +6,8 @@ use Prim.Native.Nat.{ℕ, zero, suc, _^_, _≤_, _<_}
 use native.Mathlib.Omega.{arith}
 use borrow.Author.Tests.{ltb-false, leb-false}
 use lib.Dec.{T, ltb, leb}
-use Rattle.pitch.specs.declared.Rate.{Rate}
-use Rattle.pitch.specs.declared.Rate.the-variants as rates
+use Rattle.excitation.specs.declared.Rate.{Rate}
+use Rattle.excitation.specs.declared.Rate.the-variants as rates
 use Rattle.positions.specs.Positions.{pulses}
 use Rattle.pulses.specs.Pulses.{Accepted}
 use Rattle.excitation.specs.declared.Subframe.{Subframe}

@@ -8,8 +8,8 @@ use Rattle.tables.specs.Constants.{recordHighBytes, recordLowBytes, lagCodeMax,
 use Rattle.positions.specs.Positions.{pulses}
 use Rattle.excitation.specs.declared.Subframe.{Subframe}
 use Rattle.excitation.specs.declared.Subframe.the-variants.{Zero, One, Two, Three}
-use Rattle.pitch.specs.declared.Rate.{Rate}
-use Rattle.pitch.specs.declared.Rate.the-variants as rates
+use Rattle.excitation.specs.declared.Rate.{Rate}
+use Rattle.excitation.specs.declared.Rate.the-variants as rates
 use Rattle.record.specs.Record.{byte, baseLag, gainIndex, flags, train, signs, count}
 use Rattle.refusals.specs.declared.Refusal.{Refusal}
 use Rattle.refusals.specs.declared.Refusal.the-variants.{SampleLength, StateBounds, NoByte, Kind, Length, LagCode, StepCode, GainIndex, Flags, Signs}

@@ -4,8 +4,8 @@ ghost use lib.Dec.{ltb};
 ghost use Rattle.tables.specs.Constants.{gainIndexMax};
 ghost use Rattle.record.specs.Record.{gainIndex};
 ghost use Rattle.refusals.specs.Refusals.{number, numberOf, bytesOf, wrongLagCode, wrongStepCode, wrongGainIndex, wrongFlagsIn, wrongFlags, wrongSignsIn, wrongSigns, foundHigh, foundReceived, found};
+use excitation::Rate;
 use excitation::Subframe;
-use pitch::Rate;
 
 // The ten refusals, in the order of their numbers. The first two are not of a record.
 pub enum Refusal {

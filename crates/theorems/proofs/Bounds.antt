@@ -13,8 +13,8 @@ use Rattle.tables.specs.Constants.{frameSize}
 use Rattle.lpc.specs.Lpc.{frameCoefficients}
 use Rattle.excitation.specs.declared.Subframe.the-variants.{Two, Three}
 use Rattle.excitation.proofs.Bounds.{tap-sum-bounds, unvoiced-gain-most}
-use Rattle.pitch.specs.declared.Rate.{Rate}
-use Rattle.pitch.specs.declared.Rate.the-variants as rates
+use Rattle.excitation.specs.declared.Rate.{Rate}
+use Rattle.excitation.specs.declared.Rate.the-variants as rates
 use Rattle.erasure.specs.Erasure.{nextRun}
 use Rattle.voicing.specs.Voicing.{voicingOf}
 use Rattle.record.specs.Record.{byte, blockOf}

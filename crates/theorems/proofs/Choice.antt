@@ -9,8 +9,8 @@ use lib.ListN.{length}
 use Rattle.tables.specs.Constants.{frameSize, lspMinimum}
 use Rattle.stability.specs.Stability.{checkOrPrevious}
 use Rattle.excitation.specs.Excitation.{inTurn}
-use Rattle.pitch.specs.declared.Rate.{Rate}
-use Rattle.pitch.specs.declared.Rate.the-variants as rates
+use Rattle.excitation.specs.declared.Rate.{Rate}
+use Rattle.excitation.specs.declared.Rate.the-variants as rates
 use Rattle.record.specs.Record.{candidates, blockOf}
 use Rattle.refusals.specs.Refusals.{found}
 use Rattle.refusals.specs.declared.Found.{Found}

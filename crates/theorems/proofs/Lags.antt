@@ -5,7 +5,7 @@ use lib.IntN.{pos}
 use lib.Signed.{_≤ℤ_}
 use Rattle.integers.specs.Linear.{line, line-add, line-sub}
 use Rattle.excitation.specs.declared.Subframe.the-variants.{Two, Three}
-use Rattle.pitch.specs.declared.Rate.{Rate}
+use Rattle.excitation.specs.declared.Rate.{Rate}
 use Rattle.record.specs.Record.{byte, step, blockOf}
 
 module _ (rate : Rate) (r : List ℕ) where

@@ -36,7 +36,7 @@ fn lag_rank(c: u64, e: u64, t: u64) -> Wide
     ensures { λ r. ⌜ value r ≡ c * c * 2 ^ 30 / (e * t) ⌝ }
 {
     let square = wide::times(wide::product(c, c), tables::VOICING_RANK_ONE);
-    wide::divide(square, wide::product(e, t))
+    quotient::divide(square, wide::product(e, t))
 }
 
 fn passes_gate(c: u64, e: u64, t: u64) -> bool

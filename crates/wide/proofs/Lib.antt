@@ -1,5 +1,4 @@
 -- Laws of natural numbers on which the proofs of this crate stand.
 pub mod Columns
-pub mod Estimates
 pub mod Pairs
 pub mod Shifts

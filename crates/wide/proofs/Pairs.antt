@@ -1,7 +1,7 @@
 -- Numbers of two digits h and l, h * P + l, in any base P. Assumes nothing.
 use mathlib.Core.Path.{_≡_, sym, ap, _∙_, subst}
-use Prim.Native.Nat.{ℕ, _+_, _*_, _/_, _%_, _≤_, _<_}
-use native.Mathlib.Nat.{mul-le-mul-right, lt-of-mul-lt-mul-right, div-add-mod', mod-lt}
+use Prim.Native.Nat.{ℕ, _+_, _*_, _/_, _%_, _<_}
+use native.Mathlib.Nat.{mul-le-mul-right, div-add-mod', mod-lt}
 use native.Mathlib.Omega.{arith}
 use lib.Arith.{digits-lt, digits-mod}
 
@@ -9,12 +9,6 @@ use lib.Arith.{digits-lt, digits-mod}
 
 pub pair-lt : (P h l h′ l′ : ℕ) → h < h′ → l < P → h * P + l < h′ * P + l′
 pair-lt P h l h′ l′ p q = omega (arith, mul-le-mul-right P p)
-
-pub high-lt : (P h l m : ℕ) → h * P + l < m * P → h < m
-high-lt P h l m p = lt-of-mul-lt-mul-right P (omega arith)
-
-pub high-le : (P h l m : ℕ) → l < P → m * P ≤ h * P + l → m ≤ h
-high-le P h l m p q = omega (arith, lt-of-mul-lt-mul-right P {m = m} {n = h + 1} (omega arith))
 
 -- ---- modulo the square of the base
 

@@ -1,11 +1,11 @@
 -- A pair h * P + l times K, where K * Q is the base P: what a digit has from Q on crosses into the next. Assumes nothing.
 use mathlib.Core.Path.{_≡_, sym, ap, _∙_, subst}
 use Prim.Native.Nat.{ℕ, _+_, _*_, _-_, _/_, _%_, _^_, _≤_, _<_}
-use native.Mathlib.Nat.{lt-of-lt-of-le, lt-of-mul-lt-mul-right, mul-one, mul-mod-left, mul-le-mul-right, mul-lt-mul-of-pos-right, mod-eq-of-lt, div-lt-iff-lt-mul, div-add-mod', mod-lt}
+use native.Mathlib.Nat.{lt-of-mul-lt-mul-right, mul-one, mul-mod-left, mul-le-mul-right, mul-lt-mul-of-pos-right, mod-eq-of-lt, div-lt-iff-lt-mul, div-add-mod', mod-lt}
 use native.Mathlib.Omega.{arith}
 use lib.Arith.{digits-lt, digits-mod, digits-div}
 use lib.Pow.{pow-add}
-use Rattle.wide.proofs.Pairs.{high-le, mod-square}
+use Rattle.wide.proofs.Pairs.{mod-square}
 
 -- ---- powers of two
 
@@ -24,16 +24,6 @@ by-digit P K h l p = sym (ap (λ (x : ℕ). x % (P * P)) {y = h * K * (P * P) + 
 -- by the modulus and more
 pub by-modulus : (D K x : ℕ) → 0 ≡ x * (D * K) % D
 by-modulus D K x = sym (ap (λ (y : ℕ). y % D) {y = x * K * D} (omega arith) ∙ mul-mod-left (x * K) D)
-
--- a high digit with room for K loses nothing
-pub exact : (P K m h l n : ℕ) → 0 < K → l < P → (h + 1) * K ≤ m → m ≤ P → n ≡ (h * P + l) * K % (P * P) → (n ≡ (h * P + l) * K) × (n < m * P)
-exact P K m h l n k b c d e =
-    let below : (h * P + l) * K < m * P = omega (arith, mul-lt-mul-of-pos-right {m = h * P + l} {n = (h + 1) * P} {k = K} (omega arith) k, mul-le-mul-right P c) in
-    let is : n ≡ (h * P + l) * K = e ∙ mod-eq-of-lt (lt-of-lt-of-le below (mul-le-mul-right P d)) in
-    (is, subst (λ (x : ℕ). x < m * P) (sym is) below)
-
-pub high-le-shifted : (P K h l h′ l′ : ℕ) → l′ < P → h′ * P + l′ ≡ (h * P + l) * K → h * K ≤ h′
-high-le-shifted P K h l h′ l′ b e = high-le P h′ l′ (h * K) b (omega arith)
 
 -- by less than a digit
 module _ (P K Q : ℕ) (e : K * Q ≡ P) (k : 0 < K) (q : 0 < Q) where

@@ -1,7 +1,6 @@
 -- Wide pairs (document 01, "Wide pairs"): a number below 2 ^ 128 as two 64-bit words, where the Rust has an i128 that is not negative.
 use mathlib.Core.Path.{_≡_}
-use Prim.Native.Nat.{ℕ, _+_, _*_, _/_, _^_, _<_}
-use native.Mathlib.Nat.{div-zero}
+use Prim.Native.Nat.{ℕ, _+_, _*_, _^_, _<_}
 use native.Mathlib.Omega.{arith}
 use Rattle.wide.specs.declared.Wide.{Wide}
 
@@ -12,7 +11,3 @@ value w = w .hi * 2 ^ 64 + w .lo
 -- a number below 2 ^ 128 has one pair
 pub value-one : (a b : Wide) → a .lo < 2 ^ 64 → b .lo < 2 ^ 64 → value a ≡ value b → (a .hi ≡ b .hi) × (a .lo ≡ b .lo)
 value-one a b h k e = omega arith
-
--- the quotient's answer for the divisor 0, which `value n / value d` has too
-pub quotient-by-zero : (n : ℕ) → n / 0 ≡ 0
-quotient-by-zero n = div-zero n

@@ -4,8 +4,8 @@ use Prim.Native.Nat.{ℕ, _≤_}
 use native.Mathlib.Omega.{arith}
 use borrow.Author.Needs.{needs}
 use lib.IntN.{ℤ}
+use Rattle.lags.specs.Search.{SmallSums, Small, Reaches, Inside}
 use Rattle.pitch.specs.Pitch.{levelled}
-use Rattle.pitch.specs.Search.{SmallSums, Small, Reaches, Inside}
 use Rattle.pitch.proofs.Subframes.{applied-none, applied-weak, applied-mixed}
 use Rattle.pitch.proofs.applied_choice.Statement.{statement}
 use Rattle.pitch.proofs.applied_choice.Tie as tie
@@ -51,10 +51,16 @@ returns c =
     ∙ applied-weak (a .x .now) (a .rate) (a .p) (a .t) (a .k) (m b) (cn b) (dn b) (b .best .given .1)
     (sym (w .too-weak .ensures) ∙ c .before .if1 .taken)
 
-window-place-requires : tie.Need-window-place-requires
-window-place-requires c κs =
+cast-window-place : tie.Need-cast-window-place
+cast-window-place c = omega (arith, c .before .before .before .before .before .pre .0)
+
+cast-window-place-2 : tie.Need-cast-window-place-2
+cast-window-place-2 c =
     let b = c .before .before .before in
-    (inside b .back, omega (arith, b .before .before .pre .0))
+    omega (arith, inside b .back, b .before .before .pre .0)
+
+window-place-requires : tie.Need-window-place-requires
+window-place-requires c κs = tt
 
 weight-q15-requires : tie.Need-weight-q15-requires
 weight-q15-requires c κs = small (c .before .before .before .before) .first
@@ -93,6 +99,8 @@ applied-choice-spec =
     too-weak-requires
     subframe-requires-2
     returns
+    cast-window-place
+    cast-window-place-2
     window-place-requires
     weight-q15-requires
     mixed-subframe-requires

@@ -1,15 +1,12 @@
-use mathlib.Core.Path.{_≡_, sym, ap, _∙_, subst}
-use Prim.Native.Nat.{ℕ, _+_, _-_, _≤_}
-use native.Mathlib.Omega.{arith}
-use borrow.Author.Needs.{needs}
+use mathlib.Core.Path.{sym, ap, _∙_, subst}
+use Prim.Native.Nat.{ℕ, _≤_}
 use mir.Syntax.{w32}
 use mir.Facts.{toZ-ofZ}
 use Rattle.excitation.proofs.Bounds.{place-bounds}
 use Rattle.adaptive.specs.Adaptive.{limitedLag}
-use Rattle.adaptive.proofs.Bounds.{limited-lag-bounds}
-use Rattle.pitch.specs.Pitch.{chosen, postfiltered}
-use Rattle.pitch.specs.Search.{Inside, Small}
-use Rattle.pitch.proofs.Choices.{chosen-holds}
+use Rattle.lags.specs.Search.{Inside}
+use Rattle.lags.specs.Lags.{chosenLag}
+use Rattle.pitch.specs.Pitch.{postfiltered}
 use Rattle.pitch.proofs.Subframes.{postfiltered-silent, postfiltered-chosen}
 use Rattle.pitch.proofs.pitch_postfilter.Statement.{statement}
 use Rattle.pitch.proofs.pitch_postfilter.Tie as tie
@@ -25,11 +22,11 @@ module _ (c : tie.After-subframe-place) where
   abbrev p : ℕ
   p = c .subframe-place .result
 
-  placed : (146 ≤ p) × (p ≤ 326)
-  placed = subst (λ (n : ℕ). (146 ≤ n) × (n ≤ 326)) (sym (c .subframe-place .ensures)) (place-bounds (c .before .args .s))
+  placed : p ≤ 326
+  placed = subst (λ (n : ℕ). n ≤ 326) (sym (c .subframe-place .ensures)) (place-bounds (c .before .args .s) .1)
 
 subframe-requires : tie.Need-subframe-requires
-subframe-requires c κs = placed (c .before .before .before) .1
+subframe-requires c κs = placed (c .before .before .before)
 
 returns : tie.Need-returns
 returns c =
@@ -41,68 +38,33 @@ returns c =
     ∙ postfiltered-silent (a .signal .now) (a .rate) (p t) lag (e .energy-from .result) (e .energy-from .ensures .0) (c .before .if1 .taken)
     ∙ ap (λ (n : ℕ). postfiltered (a .signal .now) (a .rate) n lag) (t .subframe-place .ensures)
 
-limited-lag-requires : tie.Need-limited-lag-requires
-limited-lag-requires c κs = tt
-
--- the limited lag
-module _ (c : tie.After-limited-lag) where
-  abbrev lag : ℕ
-  lag = c .limited-lag .result
-
-  abbrev at : tie.After-subframe-place
-  at = c .before .before .before .before
-
-  lag-is : lag ≡ limitedLag (at .before .args .lag)
-  lag-is = c .limited-lag .ensures ∙ ap limitedLag (toZ-ofZ {w = w32} (at .before .fits .lag))
-
-  limits : (18 ≤ lag) × (lag ≤ 142)
-  limits = subst (λ (n : ℕ). (18 ≤ n) × (n ≤ 142)) (sym lag-is) (limited-lag-bounds (at .before .args .lag))
-
-  searched : (lag - 3 + 7 ≤ p at) × (p at ≤ 326)
-  searched = omega (arith, limits, placed at)
-
-cast-lo : tie.Need-cast-lo
-cast-lo c = search needs
-
-sub-lo : tie.Need-sub-lo
-sub-lo c = omega (arith, limits c .0)
-
-best-lag-requires : tie.Need-best-lag-requires
-best-lag-requires c κs = searched (c .before)
-
-best-lag-requires-2 : tie.Need-best-lag-requires-2
-best-lag-requires-2 c κs = searched (c .before .before .before)
-
-chosen-direction-requires : tie.Need-chosen-direction-requires
-chosen-direction-requires c κs = tt
+chosen-lag-requires : tie.Need-chosen-lag-requires
+chosen-lag-requires c κs = tt
 
 applied-choice-requires : tie.Need-applied-choice-requires
 applied-choice-requires c κs =
-    let b = c .before .best-lag2 in
-    let f = c .before .before .before .best-lag in
-    let t = at (c .before .before .before .before .before) in
-    let k = c .chosen-direction .ensures in (
-      placed t .1,
+    let t = c .before .before .before .before in
+    let k = c .chosen-lag in (
+      placed t,
       (
-        chosen-holds (λ z. Small (z .best)) k (f .ensures .1 .0) (b .ensures .1 .0),
-        chosen-holds (λ z. Inside (z .to) (p t) (z .best)) k (f .ensures .1 .1) (b .ensures .1 .1),
+        k .ensures .1 .0,
+        subst (λ (n : ℕ). Inside (k .result .to) n (k .result .best)) (sym (t .subframe-place .ensures)) (k .ensures .1 .1),
       ),
     )
 
 returns-2 : tie.Need-returns-2
 returns-2 c =
-    let d = c .before in
-    let l = d .before .before .before .before .before in
-    let e = l .before .before .energy-from in
-    let t = at l in
-    let x = t .before .args .signal .now in
-    let rate = t .before .args .rate in
-    let b = d .before .best-lag2 in
-    let f = d .before .before .before .best-lag in
-    let choice = d .chosen-direction .ensures ∙ (λ i. chosen (f .ensures .0 i) (b .ensures .0 i)) in
+    let k = c .before in
+    let e = k .before .before .energy-from in
+    let t = k .before .before .before .before in
+    let a = t .before .args in
+    let x = a .signal .now in
+    let lag = limitedLag (a .lag) in
+    let place = t .subframe-place .ensures in
+    let choice = k .chosen-lag .ensures .0 ∙ (λ i. chosenLag x (sym place i) (ap limitedLag (toZ-ofZ {w = w32} (t .before .fits .lag)) i)) in
     c .applied-choice .ensures
-    ∙ postfiltered-chosen x rate (p t) (lag l) (e .result) (e .ensures .0) (l .before .if1 .left) (d .chosen-direction .result) choice
-    ∙ (λ i. postfiltered x rate (t .subframe-place .ensures i) (lag-is l i))
+    ∙ postfiltered-chosen x (a .rate) (p t) lag (e .result) (e .ensures .0) (k .before .if1 .left) (k .chosen-lag .result) choice
+    ∙ ap (λ (n : ℕ). postfiltered x (a .rate) n lag) place
 
 pub pitch-postfilter-spec : {M : Type 1} → statement M
 pitch-postfilter-spec =
@@ -112,11 +74,6 @@ pitch-postfilter-spec =
     energy-from-requires
     subframe-requires
     returns
-    limited-lag-requires
-    cast-lo
-    sub-lo
-    best-lag-requires
-    best-lag-requires-2
-    chosen-direction-requires
+    chosen-lag-requires
     applied-choice-requires
     returns-2)

@@ -9,7 +9,7 @@ use mir.Val.{ofZ}
 use Rattle.integers.specs.Base.{Is, Within}
 use Rattle.integers.specs.Bound.{within-mul, fits-within}
 use Rattle.integers.specs.Expression.{is-arg, is-mul, need-mul, within-is}
-use Rattle.pitch.proofs.Squares.{square-natural}
+use Rattle.lags.proofs.Squares.{square-natural}
 use Rattle.pitch.proofs.square_sum.Statement.{statement}
 use Rattle.pitch.proofs.square_sum.Tie as tie
 

@@ -2,7 +2,7 @@ use mathlib.Core.Path.{_∙_, ap}
 use Prim.Native.Nat.{ℕ, _*_, _%_, _^_}
 use native.Mathlib.Nat.{mod-eq-of-lt, mul-comm}
 use lib.Dec.{ltb, lit≤}
-use Rattle.pitch.proofs.Sizes.{triple-fits}
+use Rattle.lags.proofs.Sizes.{triple-fits}
 use Rattle.pitch.proofs.too_weak.Statement.{statement}
 use Rattle.pitch.proofs.too_weak.Tie as tie
 

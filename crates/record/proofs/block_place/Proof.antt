@@ -4,7 +4,7 @@ use Prim.Native.Nat.{_+_, _*_, _≤_}
 use native.Mathlib.Omega.{arith}
 use borrow.Author.Needs.{needs}
 use Rattle.excitation.specs.declared.Subframe.{Subframe}
-use Rattle.pitch.specs.declared.Rate.{Rate}
+use Rattle.excitation.specs.declared.Rate.{Rate}
 use Rattle.record.specs.Record.{number, blockSize, blockPlace}
 use Rattle.record.proofs.Places.{place-bound}
 use Rattle.record.proofs.block_place.Statement.{statement}

@@ -3,8 +3,8 @@ use Prim.Native.Nat.{_+_, _≤_}
 use native.Mathlib.Omega.{arith}
 use borrow.Author.Needs.{needs}
 use Rattle.pulses.specs.Pulses.{vector}
-use Rattle.pitch.specs.declared.Rate.{Rate}
-use Rattle.pitch.specs.declared.Rate.the-variants.{Low}
+use Rattle.excitation.specs.declared.Rate.{Rate}
+use Rattle.excitation.specs.declared.Rate.the-variants.{Low}
 use Rattle.record.specs.Record.{words, fixed}
 use Rattle.record.proofs.Places.{place-bound}
 use Rattle.record.proofs.fixed_vector.Statement.{statement}

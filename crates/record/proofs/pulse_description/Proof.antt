@@ -2,7 +2,7 @@ use mathlib.Core.Path.{_≡_, _∙_}
 use Prim.Native.Nat.{_+_, _*_, _/_, _%_, _≤_}
 use native.Mathlib.Omega.{arith}
 use lib.Dec.{eqb}
-use Rattle.pitch.specs.declared.Rate.the-variants.{High}
+use Rattle.excitation.specs.declared.Rate.the-variants.{High}
 use Rattle.record.specs.Record.{byte, blockPlace}
 use Rattle.record.proofs.Places.{place-bound}
 use Rattle.record.proofs.pulse_description.Statement.{statement}

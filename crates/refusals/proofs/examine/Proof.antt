@@ -5,7 +5,7 @@ use Prim.Native.Nat.{ℕ}
 use borrow.Author.Tests.{lt-ltb, le-ltb, eq-eqb, ne-eqb}
 use lib.Dec.{ltb, eqb}
 use lib.ListN.{length}
-use Rattle.pitch.specs.declared.Rate.the-variants.{High}
+use Rattle.excitation.specs.declared.Rate.the-variants.{High}
 use Rattle.record.specs.Record.{byte}
 use Rattle.refusals.specs.declared.Refusal.the-variants.{Length}
 use Rattle.refusals.specs.declared.Found.{Found}

@@ -9,7 +9,7 @@ use mir.Syntax.{w32}
 use mir.Val.{SFits}
 use Rattle.integers.specs.Base.{Is}
 use Rattle.integers.specs.Expression.{is-mag, is-lit, is-add, is-le, need-add}
-use Rattle.pitch.specs.declared.Rate.the-variants.{High}
+use Rattle.excitation.specs.declared.Rate.the-variants.{High}
 use Rattle.record.specs.Record.{byte, flags}
 use Rattle.record.proofs.Places.{place-bound}
 use Rattle.integers.specs.Truth.{or-here, or-there, and-here, and-there}

@@ -6,7 +6,7 @@ use borrow.Author.Needs.{needs}
 use lib.Dec.{leb}
 use Rattle.positions.specs.Positions.{pulses}
 use Rattle.excitation.specs.declared.Subframe.{Subframe}
-use Rattle.pitch.specs.declared.Rate.the-variants.{High}
+use Rattle.excitation.specs.declared.Rate.the-variants.{High}
 use Rattle.record.specs.Record.{byte, signs, count}
 use Rattle.record.proofs.Places.{place-bound}
 use Rattle.refusals.specs.Refusals.{wrongSignsIn}

@@ -1,0 +1,3 @@
+-- Laws of natural numbers on which the proofs of this crate stand.
+pub mod Estimates
+pub mod Shifts
