@@ -55,6 +55,8 @@ samplesTo Erased s r samples = erasedSamples s
 samplesTo High s r samples = receivedSamples s rates.High r
 samplesTo Low s r samples = receivedSamples s rates.Low r
 
+-- ---- what `decode` promises: its answer, the number of its verdict, and the samples at exit
+
 abbrev pub answerOf : State → List ℕ → List ℤ → Answer
 answerOf s r samples = answerTo (examined s r samples) s r
 

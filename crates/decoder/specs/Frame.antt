@@ -43,12 +43,15 @@ pitchInputs rate lagOf x = eachSubframe (λ s. postfiltered x rate (place s) (li
 
 -- The frame's LSPs, its signal with the excitation, the inputs of its synthesis, and what is stored for erased frames (record_last_frame).
 module _ (s : State) (lsps signal : List ℤ) (inputs : List (List ℤ)) (last : LastFrame) where
+  -- the memories before it
   abbrev pub filtersOf : Filters
   filtersOf = record { «syn_mem» = s .«syn_mem»; pf = s .pf }
 
+  -- its 240 samples
   abbrev pub frameSamples : List ℤ
   frameSamples = frameHeard (s .postfilter) (frameCoefficients (s .«prev_lsp») lsps) inputs filtersOf
 
+  -- the memories after it
   abbrev pub filtersLast : Filters
   filtersLast = frameFilters (s .postfilter) (frameCoefficients (s .«prev_lsp») lsps) inputs filtersOf
 

@@ -1,7 +1,6 @@
 -- Laws on which the proofs of this crate stand.
 pub mod Tests
 pub mod Squares
-pub mod Sizes
 pub mod Energies
 pub mod Choices
 pub mod Lags

@@ -1,4 +1,3 @@
-pub mod Ranks
 pub mod Highest
 pub mod Weights
 pub mod Scores

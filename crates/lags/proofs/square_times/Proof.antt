@@ -1,7 +1,5 @@
-use mathlib.Core.Path.{_∙_, ap}
-use Prim.Native.Nat.{ℕ, _*_, _%_, _^_}
-use native.Mathlib.Nat.{mod-eq-of-lt}
-use Rattle.lags.proofs.Sizes.{triple-fits}
+use Prim.Native.Nat.{_^_}
+use Rattle.wide.proofs.Squares.{square-times}
 use Rattle.lags.proofs.square_times.Statement.{statement}
 use Rattle.lags.proofs.square_times.Tie as tie
 
@@ -16,8 +14,7 @@ returns c =
     let s = c .before .before in
     let a = s .args .a in
     let b = s .args .b in
-    c .times .ensures ∙ ap (λ (n : ℕ). n * b % 2 ^ 128) (c .before .product .ensures)
-    ∙ mod-eq-of-lt (triple-fits a a b (s .pre .0) (s .pre .0) (s .pre .1))
+    square-times (2 ^ 36) (2 ^ 37) a b (s .pre .0) (s .pre .1) tt (c .before .product .ensures) (c .times .ensures)
 
 pub square-times-spec : {M : Type 1} → statement M
 square-times-spec = tie.close (tie.spec product-requires times-requires returns)

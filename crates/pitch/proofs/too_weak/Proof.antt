@@ -1,8 +1,8 @@
-use mathlib.Core.Path.{_∙_, ap}
-use Prim.Native.Nat.{ℕ, _*_, _%_, _^_}
-use native.Mathlib.Nat.{mod-eq-of-lt, mul-comm}
+use mathlib.Core.Path.{_∙_}
+use Prim.Native.Nat.{_*_, _^_}
+use native.Mathlib.Nat.{mul-comm}
 use lib.Dec.{ltb, lit≤}
-use Rattle.lags.proofs.Sizes.{triple-fits}
+use Rattle.wide.proofs.Squares.{square-times}
 use Rattle.pitch.proofs.too_weak.Statement.{statement}
 use Rattle.pitch.proofs.too_weak.Tie as tie
 
@@ -24,8 +24,7 @@ returns c =
     let s = t .before .before in
     let a = s .args .c in
     let fourfold =
-    t .times .ensures ∙ ap (λ (n : ℕ). n * 4 % 2 ^ 128) (t .before .product .ensures)
-    ∙ mod-eq-of-lt (triple-fits a a 4 (s .pre) (s .pre) (lit≤ tt)) ∙ mul-comm (a * a) 4 in
+    square-times (2 ^ 36) 4 a 4 (s .pre) (lit≤ tt) tt (t .before .product .ensures) (t .times .ensures) ∙ mul-comm (a * a) 4 in
     c .less .ensures ∙ (λ i. ltb (fourfold i) (c .before .product2 .ensures i))
 
 pub too-weak-spec : {M : Type 1} → statement M

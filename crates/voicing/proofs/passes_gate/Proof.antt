@@ -1,10 +1,10 @@
 use mathlib.Core.Path.{sym, ap, _∙_}
 use mathlib.Core.Bool.{not}
-use Prim.Native.Nat.{_*_}
+use Prim.Native.Nat.{_*_, _^_}
 use native.Mathlib.Nat.{mul-comm}
 use lib.Dec.{ltb, lit≤}
 use Rattle.integers.specs.Truth.{leb-not-ltb}
-use Rattle.voicing.proofs.Ranks.{square-times}
+use Rattle.wide.proofs.Squares.{square-times}
 use Rattle.voicing.proofs.passes_gate.Statement.{statement}
 use Rattle.voicing.proofs.passes_gate.Tie as tie
 
@@ -25,7 +25,7 @@ returns c =
     let t = c .before .before in
     let s = t .before .before in
     let a = s .args .c in
-    let square = square-times a 8 (s .pre) (lit≤ tt) (t .before .product .ensures) (t .times .ensures) in
+    let square = square-times (2 ^ 37) 8 a 8 (s .pre) (lit≤ tt) tt (t .before .product .ensures) (t .times .ensures) in
     ap not (c .less .ensures ∙ (λ i. ltb ((square ∙ mul-comm (a * a) 8) i) (c .before .product2 .ensures i)))
     ∙ sym (leb-not-ltb (s .args .e * s .args .t) (8 * (a * a)))
 
