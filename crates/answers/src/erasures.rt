@@ -31,7 +31,7 @@ fn voiced(buf: &mut [u8], c: Cursor) -> Cursor {
 fn noise(buf: &mut [u8], c: Cursor) -> Cursor {
     let run = next_word(buf, c);
     let w = run.word;
-    print64(erasure::noise_start((w.size % 0x1_0000_0000) as u32) as u64);
+    print64(noise::noise_start((w.size % 0x1_0000_0000) as u32) as u64);
     run.cursor
 }
 

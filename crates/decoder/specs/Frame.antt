@@ -18,7 +18,8 @@ use Rattle.excitation.specs.declared.Rate.{Rate}
 use Rattle.output.specs.Output.{frameHeard, frameFilters}
 use Rattle.output.specs.declared.Filters.{Filters}
 use Rattle.voicing.specs.Voicing.{voicingOf}
-use Rattle.erasure.specs.Erasure.{nextRun, erasedExcitation}
+use Rattle.noise.specs.Noise.{nextRun}
+use Rattle.erasure.specs.Erasure.{erasedExcitation}
 use Rattle.record.specs.Record.{candidates, blockOf}
 use Rattle.record.specs.declared.Block.{Block}
 use Rattle.state.specs.State.{frameSignal, historyAfter}

@@ -132,7 +132,7 @@ fn decode_erased(samples: &mut [i16], given: State) -> State
     ensures state { λ r. ⌜ r ≡ erasedState given ⌝ }
     ensures samples { λ r. ⌜ now (samples .exit) ≡ erasedSamples given ⌝ }
 {
-    let run = erasure::next_run(given.erased_run);
+    let run = noise::next_run(given.erased_run);
     let prev = given.prev_lsp;
     let candidates = lsp::lsp_extrapolate(prev);
     let lsps = stability::lsp_check_or_previous(

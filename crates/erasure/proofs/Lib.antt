@@ -1,4 +1,1 @@
-pub mod Bounds
 pub mod Turns
-pub mod Values
-pub mod Words

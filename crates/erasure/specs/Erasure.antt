@@ -1,61 +1,18 @@
 -- The excitation of an erased frame (document 01, "Erasure"; the Rust's decode_erased; §3.10.2 of G.723.1). The signal is that of crate excitation.
-use mathlib.Core.Bool.{cond}
 use mathlib.Core.List.{List}
-use Prim.Native.Nat.{ℕ, zero, suc, _+_, _-_, _*_, _/_, _%_, _^_, min}
-use lib.Dec.{ltb}
-use lib.IntN.{ℤ, pos, _-ℤ_, _*ℤ_}
-use Rattle.integers.specs.Base.{floorDiv, entry, tabulate}
-use Rattle.tables.specs.Constants.{subframeSize, excHist, erasureAttenuation, erasureMuteAfter, noiseStart, noiseStep, noiseFactor, noiseSummand}
+use Prim.Native.Nat.{ℕ, _+_, _-_, _%_}
+use lib.IntN.{ℤ, pos}
+use Rattle.integers.specs.Base.{entry, tabulate}
+use Rattle.tables.specs.Constants.{subframeSize, excHist}
 use Rattle.basicop.specs.Operators.{mult16}
 use Rattle.excitation.specs.Excitation.{place, withSubframe, inTurn}
 use Rattle.excitation.specs.declared.Subframe.{Subframe}
 use Rattle.adaptive.specs.Adaptive.{limitedLag}
 use Rattle.voicing.specs.declared.Voicing.{Voicing}
 use Rattle.voicing.specs.declared.Voicing.the-variants.{Unvoiced, Voiced}
-
--- ---- the run and its attenuation
-
--- erased frames in a row, and one more: it stays at 2 ^ 32 - 1
-abbrev pub nextRun : ℕ → ℕ
-nextRun run = min (run + 1) (2 ^ 32 - 1)
-
--- 3/4 to the n-th in 32768ths, with a floor at each step
-unfoldable pub threeQuartersTo : ℕ → ℕ
-threeQuartersTo zero = 32768
-threeQuartersTo (suc n) = threeQuartersTo n * erasureAttenuation / 32768
-
--- of the frame that is the run-th in a row: 24576, 18432, 13824 (proofs/Values.antt), and then 0
-abbrev pub attenuation : ℕ → ℕ
-attenuation run = cond (ltb erasureMuteAfter run) 0 (threeQuartersTo run)
-
--- a gain so attenuated
-abbrev pub attenuated : ℤ → ℕ → ℤ
-attenuated gain run = floorDiv (gain *ℤ pos (attenuation run)) 32768
-
--- ---- noise
-
--- the word at the start of a frame
-abbrev pub startWord : ℕ → ℕ
-startWord run = (noiseStart + run * noiseStep) % 2 ^ 32
-
--- multiplied and added modulo 2 ^ 32
-abbrev pub nextWord : ℕ → ℕ
-nextWord w = (w * noiseFactor + noiseSummand) % 2 ^ 32
-
--- the word n samples on
-unfoldable pub wordAfter : ℕ → ℕ → ℕ
-wordAfter w zero = w
-wordAfter w (suc n) = nextWord (wordAfter w n)
-
--- its 16 bits from bit 8 on, less 32768
-abbrev pub noise : ℕ → ℤ
-noise w = pos (w / 256 % 65536) -ℤ pos 32768
+use Rattle.noise.specs.Noise.{attenuated, startWord, wordAfter, noiseSubframe}
 
 -- ---- a subframe
-
--- unvoiced: noise times a gain in 32768ths; w is the word before it
-unfoldable pub noiseSubframe : ℤ → ℕ → List ℤ
-noiseSubframe gain w = tabulate (λ n. mult16 gain (noise (wordAfter w (n + 1)))) subframeSize
 
 -- voiced: the last l samples before p, again and again, times a gain in 32768ths
 unfoldable pub replayed : List ℤ → ℕ → ℕ → ℤ → List ℤ

@@ -15,7 +15,7 @@ use Rattle.excitation.specs.declared.Subframe.the-variants.{Two, Three}
 use Rattle.excitation.proofs.Bounds.{tap-sum-bounds, unvoiced-gain-most}
 use Rattle.excitation.specs.declared.Rate.{Rate}
 use Rattle.excitation.specs.declared.Rate.the-variants as rates
-use Rattle.erasure.specs.Erasure.{nextRun}
+use Rattle.noise.specs.Noise.{nextRun}
 use Rattle.voicing.specs.Voicing.{voicingOf}
 use Rattle.record.specs.Record.{byte, blockOf}
 use Rattle.refusals.specs.Refusals.{found}

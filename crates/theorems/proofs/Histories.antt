@@ -19,7 +19,8 @@ use Rattle.excitation.specs.declared.Subframe.the-variants.{Zero, One, Two, Thr
 use Rattle.adaptive.specs.Adaptive.{limitedLag, adaptive}
 use Rattle.voicing.specs.declared.Voicing.{Voicing}
 use Rattle.voicing.specs.declared.Voicing.the-variants.{Unvoiced, Voiced}
-use Rattle.erasure.specs.Erasure.{attenuated, startWord, wordAfter, noiseSubframe, replayed, erasedExcitation}
+use Rattle.noise.specs.Noise.{attenuated, startWord, wordAfter, noiseSubframe}
+use Rattle.erasure.specs.Erasure.{replayed, erasedExcitation}
 use Rattle.record.specs.declared.Block.{Block}
 use Rattle.state.specs.State.{areWords, frameSignal, historyAfter}
 use Rattle.state.proofs.Bounds.{words-from}

@@ -7,7 +7,8 @@ use Rattle.integers.specs.Signed.{back}
 use Rattle.voicing.specs.declared.Voicing.{Voicing}
 use Rattle.excitation.specs.Excitation.{inTurn}
 use Rattle.adaptive.specs.Adaptive.{limitedLag}
-use Rattle.erasure.specs.Erasure.{attenuated, noiseTo, replayTo, erasedExcitation}
+use Rattle.noise.specs.Noise.{attenuated}
+use Rattle.erasure.specs.Erasure.{noiseTo, replayTo, erasedExcitation}
 use Rattle.erasure.proofs.erased_excitation.Statement.{statement}
 use Rattle.erasure.proofs.erased_excitation.Tie as tie
 

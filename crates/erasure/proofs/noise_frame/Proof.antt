@@ -5,8 +5,8 @@ use mir.Syntax.{w16}
 use mir.Val.{toZ, ofZ}
 use mir.Facts.{toZ-ofZ}
 use Rattle.excitation.specs.Excitation.{withSubframe}
-use Rattle.erasure.specs.Erasure.{wordAfter, noiseSubframe}
-use Rattle.erasure.proofs.Words.{word-after-zero, word-after-add}
+use Rattle.noise.specs.Noise.{wordAfter, noiseSubframe}
+use Rattle.noise.proofs.Words.{word-after-zero, word-after-add}
 use Rattle.erasure.proofs.noise_frame.Statement.{statement}
 use Rattle.erasure.proofs.noise_frame.Tie as tie
 

@@ -7,10 +7,10 @@ use Rattle.integers.specs.Base.{Is}
 use Rattle.integers.specs.Bound.{within-fits, within-mul, fits-within}
 use Rattle.integers.specs.Expression.{is-arg, is-result, is-cast, is-mul, is-shr, need-cast, need-mul}
 use Rattle.integers.specs.Signed.{widen}
-use Rattle.erasure.specs.Erasure.{attenuation, attenuated}
-use Rattle.erasure.proofs.Bounds.{attenuation-most, attenuated-fits}
-use Rattle.erasure.proofs.attenuated_gain.Statement.{statement}
-use Rattle.erasure.proofs.attenuated_gain.Tie as tie
+use Rattle.noise.specs.Noise.{attenuation, attenuated}
+use Rattle.noise.proofs.Bounds.{attenuation-most, attenuated-fits}
+use Rattle.noise.proofs.attenuated_gain.Statement.{statement}
+use Rattle.noise.proofs.attenuated_gain.Tie as tie
 
 cast-result : tie.Need-cast-result
 cast-result c = need-cast (is-arg (c .fits .gain)) (widen (c .fits .gain) tt)

@@ -2,8 +2,8 @@ use Prim.Native.Nat.{ℕ, _*_, _^_, _≤_, _<_}
 use native.Mathlib.Nat.{mul-le-mul}
 use native.Mathlib.Omega.{arith}
 use borrow.Author.Needs.{needs}
-use Rattle.erasure.proofs.wrapping_mul.Statement.{statement}
-use Rattle.erasure.proofs.wrapping_mul.Tie as tie
+use Rattle.noise.proofs.wrapping_mul.Statement.{statement}
+use Rattle.noise.proofs.wrapping_mul.Tie as tie
 
 product-below : (a b : ℕ) → a < 2 ^ 32 → b < 2 ^ 32 → a * b < 2 ^ 64
 product-below a b h k =

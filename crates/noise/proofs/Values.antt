@@ -1,7 +1,7 @@
 -- Values at the limits of document 01's numbers, by computation.
 use mathlib.Core.Path.{_≡_, refl}
 use Prim.Native.Nat.{_-_, _^_}
-use Rattle.erasure.specs.Erasure.{nextRun, threeQuartersTo, attenuation, startWord}
+use Rattle.noise.specs.Noise.{nextRun, threeQuartersTo, attenuation, startWord}
 
 pub attenuation-of-1 : attenuation 1 ≡ 24576
 unfolding threeQuartersTo

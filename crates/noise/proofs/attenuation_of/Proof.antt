@@ -10,10 +10,10 @@ use mir.Val.{SFits}
 use Rattle.integers.specs.Base.{Is}
 use Rattle.integers.specs.Expression.{is-lit, is-mul, is-shr, need-mul}
 use Rattle.tables.specs.Constants.{erasureAttenuation}
-use Rattle.erasure.specs.Erasure.{threeQuartersTo}
-use Rattle.erasure.proofs.Bounds.{three-quarters-most}
-use Rattle.erasure.proofs.attenuation_of.Statement.{statement}
-use Rattle.erasure.proofs.attenuation_of.Tie as tie
+use Rattle.noise.specs.Noise.{threeQuartersTo}
+use Rattle.noise.proofs.Bounds.{three-quarters-most}
+use Rattle.noise.proofs.attenuation_of.Statement.{statement}
+use Rattle.noise.proofs.attenuation_of.Tie as tie
 
 abbrev Inv-loop : tie.InvT-loop
 Inv-loop run a₀ n₀ a n = (n ≤ run) × Is w32 a (pos (threeQuartersTo n))

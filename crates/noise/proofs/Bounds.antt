@@ -10,7 +10,7 @@ use mir.Val.{SFits}
 use Rattle.integers.specs.Base.{floorDiv}
 use Rattle.integers.specs.Natural.{cond-elim}
 use Rattle.tables.specs.Constants.{erasureMuteAfter}
-use Rattle.erasure.specs.Erasure.{threeQuartersTo, attenuation, attenuated}
+use Rattle.noise.specs.Noise.{threeQuartersTo, attenuation, attenuated}
 
 pub three-quarters-most : (n : ℕ) → threeQuartersTo n ≤ 32768
 unfolding threeQuartersTo

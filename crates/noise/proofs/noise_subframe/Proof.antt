@@ -8,10 +8,10 @@ use Rattle.integers.specs.Base.{Fills, tabulate}
 use Rattle.integers.specs.Fill.{fills-start, fills-next, fills-end}
 use Rattle.integers.specs.Signed.{back}
 use Rattle.basicop.specs.Operators.{mult16}
-use Rattle.erasure.specs.Erasure.{nextWord, wordAfter, noise, noiseSubframe}
-use Rattle.erasure.proofs.Words.{word-after-zero, word-after-step}
-use Rattle.erasure.proofs.noise_subframe.Statement.{statement}
-use Rattle.erasure.proofs.noise_subframe.Tie as tie
+use Rattle.noise.specs.Noise.{nextWord, wordAfter, noise, noiseSubframe}
+use Rattle.noise.proofs.Words.{word-after-zero, word-after-step}
+use Rattle.noise.proofs.noise_subframe.Statement.{statement}
+use Rattle.noise.proofs.noise_subframe.Tie as tie
 
 abbrev Inv-loop : tie.InvT-loop
 Inv-loop gain start word₀ out₀ n₀ word out n =

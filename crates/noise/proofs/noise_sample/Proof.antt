@@ -8,9 +8,9 @@ use Rattle.integers.specs.Base.{Is}
 use Rattle.integers.specs.Expression.{is-arg, is-lit, is-sub, is-cast, need-sub, need-cast}
 use Rattle.integers.specs.Linear.{line, line-sub, fits-between}
 use Rattle.integers.specs.Signed.{widen}
-use Rattle.erasure.specs.Erasure.{noise}
-use Rattle.erasure.proofs.noise_sample.Statement.{statement}
-use Rattle.erasure.proofs.noise_sample.Tie as tie
+use Rattle.noise.specs.Noise.{noise}
+use Rattle.noise.proofs.noise_sample.Statement.{statement}
+use Rattle.noise.proofs.noise_sample.Tie as tie
 
 cast-result : tie.Need-cast-result
 cast-result c = search needs

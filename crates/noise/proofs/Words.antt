@@ -3,7 +3,7 @@ use mathlib.Core.Path.{_≡_, refl, sym, ap, _∙_}
 use Prim.Native.Nat.{ℕ, zero, suc, _+_}
 use native.Mathlib.Nat.{add-zero, add-suc}
 use native.Mathlib.Numerals.{add-one}
-use Rattle.erasure.specs.Erasure.{nextWord, wordAfter}
+use Rattle.noise.specs.Noise.{nextWord, wordAfter}
 
 pub word-after-zero : (w : ℕ) → wordAfter w 0 ≡ w
 unfolding wordAfter
