@@ -22,7 +22,7 @@ use Rattle.noise.specs.Noise.{nextRun}
 use Rattle.erasure.specs.Erasure.{erasedExcitation}
 use Rattle.record.specs.Record.{candidates, blockOf}
 use Rattle.record.specs.declared.Block.{Block}
-use Rattle.state.specs.State.{frameSignal, historyAfter}
+use Rattle.widths.specs.Widths.{frameSignal, historyAfter}
 use Rattle.state.specs.declared.State.{State}
 use Rattle.decoder.specs.declared.LastFrame.{LastFrame}
 

@@ -98,7 +98,7 @@ fn finish_frame(
     let prev = given.prev_lsp;
     let sets = lpc::frame_lpc_q13(prev, lsps);
     let wide = given.syn_mem;
-    let mem = state::narrow_memory(wide);
+    let mem = widths::narrow_memory(wide);
     let pf = given.pf;
     let before = Filters {
         syn_mem: mem,
@@ -106,9 +106,9 @@ fn finish_frame(
     };
     let f = output::output_frame(samples, given.postfilter, sets, inputs, before);
     let tail = pcm_history(&samples[120..240]);
-    let history = state::history_after(&signal);
+    let history = widths::history_after(&signal);
     let narrow = f.syn_mem;
-    let after = state::widen_memory(narrow);
+    let after = widths::widen_memory(narrow);
     let pf_after = f.pf;
     State {
         prev_lsp: lsps,
@@ -145,7 +145,7 @@ fn decode_erased(samples: &mut [i16], given: State) -> State
     let tap_sum = given.last_taps_sum_q15 as i16;
     let gain = given.last_gain_unvoiced as i16;
     let history = given.exc_hist;
-    let silent = state::frame_signal(history);
+    let silent = widths::frame_signal(history);
     let signal = erasure::erased_excitation(silent, class, tap_sum, gain, run);
     let inputs = plain_inputs(&signal);
     let last = LastFrame {
@@ -173,7 +173,7 @@ fn decode_received(samples: &mut [i16], given: State, rate: Rate, record: &[u8])
     let b2 = record::read_block(record, rate, Subframe::Two);
     let b3 = record::read_block(record, rate, Subframe::Three);
     let history = given.exc_hist;
-    let x0 = state::frame_signal(history);
+    let x0 = widths::frame_signal(history);
     let x1 = received_subframe(x0, Subframe::Zero, b0);
     let x2 = received_subframe(x1, Subframe::One, b1);
     let x3 = received_subframe(x2, Subframe::Two, b2);

@@ -20,7 +20,8 @@ use Rattle.tables.specs.Constants.{pitchMin, agcMax, lastLagMin, lastLagMax, la
 use Rattle.basicop.specs.Operators.{word16}
 use Rattle.state.specs.declared.State.{State}
 use Rattle.state.specs.State.{freshState, between, allTo, areWords, numbersInBounds, inBounds}
-use Rattle.state.specs.State.{frameSignal, narrowed}
+use Rattle.widths.specs.Widths.{frameSignal, narrowed}
+use Rattle.widths.proofs.Narrowed.{word-narrowed, past-narrowed}
 use Rattle.integers.specs.Truth.{both}
 use Rattle.state.proofs.Tests.{between-in, between-out, all-at, all-from}
 
@@ -40,13 +41,6 @@ words-from xs n h = all-from (isWord xs) n (λ i p. in-type (entry xs i) (h i p)
   where
     in-type : (z : ℤ) → SFits w16 z → between (negsuc 32767) (pos 32767) z ≡ true
     in-type z f = between-out (negsuc 32767) (pos 32767) z (omega (line, line-fits z f)) (omega (line, line-fits z f))
-
-pub word-narrowed : (z : ℤ) → SFits w16 z → word16 z ≡ z
-word-narrowed z f = saturated-same 32767 f tt
-
--- past the end they are 0
-pub past-narrowed : (xs : List ℤ) (i : ℕ) → length xs ≤ i → word16 (entry xs i) ≡ pos 0
-past-narrowed xs i h = ap word16 (List·getD-eq-default xs (pos 0) h) ∙ word-narrowed (pos 0) (zero-fits w16)
 
 -- each is its own nearest word
 pub words-narrowed : (xs : List ℤ) (n : ℕ) → areWords xs n ≡ true → narrowed xs n ≡ tabulate (entry xs) n

@@ -1,14 +1,13 @@
 -- The state of the decoder (document 01, number 2 and "Frame"; the Rust's QSynthesis and QSynthesis::new). It is the code's struct, with the Rust's fields and widths; the Rust's clamp_syn_mem is always set.
 use mathlib.Core.Bool.{Bool, true, not, _&&_}
 use mathlib.Core.List.{List}
-use Prim.Native.Nat.{ℕ, zero, suc, _+_}
+use Prim.Native.Nat.{ℕ, zero, suc}
 use lib.IntN.{ℤ, pos, negsuc}
 use lib.ListN.{replicate}
 use lib.Signed.{ltZ}
-use Rattle.integers.specs.Base.{entry, tabulate}
-use Rattle.tables.specs.Constants.{lpcOrder, frameSize, excHist, classifierHistory, pitchMin, freshLag, agcOne, agcMax, lastLagMin, lastLagMax, lastBaseLagMax, unvoicedGainMax}
+use Rattle.integers.specs.Base.{entry}
+use Rattle.tables.specs.Constants.{lpcOrder, excHist, classifierHistory, pitchMin, freshLag, agcOne, agcMax, lastLagMin, lastLagMax, lastBaseLagMax, unvoicedGainMax}
 use Rattle.tables.specs.Tables.{meanLsps}
-use Rattle.basicop.specs.Operators.{word16}
 use Rattle.postfilter.specs.declared.Postfilter.{Postfilter}
 use Rattle.state.specs.declared.State.{State}
 
@@ -65,17 +64,3 @@ numbersInBounds s =
 
 unfoldable pub inBounds : State → Bool
 inBounds s = areWords (s .«exc_hist») excHist && (areWords (s .«syn_mem») lpcOrder && numbersInBounds s)
-
--- ---- what the frame works on
-
--- the signal of a frame before its excitation: the history, then 240 zeros
-abbrev pub frameSignal : List ℤ → List ℤ
-frameSignal history = tabulate (entry history) (excHist + frameSize)
-
--- the history after it: the last 146 samples
-abbrev pub historyAfter : List ℤ → List ℤ
-historyAfter x = tabulate (λ i. entry x (frameSize + i)) excHist
-
--- n values brought to 16 bits, which changes none of a state in bounds
-abbrev pub narrowed : List ℤ → ℕ → List ℤ
-narrowed xs n = tabulate (λ i. word16 (entry xs i)) n

@@ -1,7 +1,7 @@
 // The state of the decoder: the Rust's QSynthesis with its widths (qdec.rs), a fresh one, and the bounds of number 2.
 ghost use mathlib.Core.Path.{_≡_};
 ghost use lib.ListN.{length};
-ghost use Rattle.state.specs.State.{freshPostfilter, freshState, between, areWords, numbersInBounds, inBounds, historyAfter, narrowed};
+ghost use Rattle.state.specs.State.{freshPostfilter, freshState, between, areWords, numbersInBounds, inBounds};
 use postfilter::Postfilter;
 
 pub struct State {
@@ -88,55 +88,4 @@ pub fn in_bounds(state: State) -> bool
     let history = state.exc_hist;
     let memory = state.syn_mem;
     are_words(&history) && are_words(&memory) && numbers_in_bounds(state)
-}
-
-// The signal of a frame before its excitation, in 16 bits.
-pub fn frame_signal(exc_hist: [i32; 146]) -> [i16; 386]
-    ensures { λ r. ⌜ r ≡ narrowed «exc_hist» 386 ⌝ }
-{
-    let mut x = [0i16; 386];
-    let mut i: usize = 0;
-    while i < 146 {
-        x[i] = basicop::saturate(exc_hist[i]);
-        i += 1;
-    }
-    x
-}
-
-// The history after a frame.
-pub fn history_after(signal: &[i16; 386]) -> [i32; 146]
-    ensures { λ r. ⌜ r ≡ historyAfter (now (signal .entry)) ⌝ }
-{
-    let mut h = [0i32; 146];
-    let mut i: usize = 0;
-    while i < 146 {
-        h[i] = signal[240 + i] as i32;
-        i += 1;
-    }
-    h
-}
-
-// The synthesis memory in 16 bits, and back.
-pub fn narrow_memory(syn_mem: [i32; 10]) -> [i16; 10]
-    ensures { λ r. ⌜ r ≡ narrowed «syn_mem» 10 ⌝ }
-{
-    let mut m = [0i16; 10];
-    let mut i: usize = 0;
-    while i < 10 {
-        m[i] = basicop::saturate(syn_mem[i]);
-        i += 1;
-    }
-    m
-}
-
-pub fn widen_memory(mem: [i16; 10]) -> [i32; 10]
-    ensures { λ r. ⌜ r ≡ mem ⌝ }
-{
-    let mut m = [0i32; 10];
-    let mut i: usize = 0;
-    while i < 10 {
-        m[i] = mem[i] as i32;
-        i += 1;
-    }
-    m
 }

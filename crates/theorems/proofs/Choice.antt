@@ -17,7 +17,8 @@ use Rattle.refusals.specs.declared.Found.{Found}
 use Rattle.refusals.specs.declared.Found.the-variants.{Erased, High, Low, Refused}
 use Rattle.refusals.specs.declared.Refusal.{Refusal}
 use Rattle.refusals.specs.declared.Refusal.the-variants.{SampleLength, StateBounds}
-use Rattle.state.specs.State.{freshState, inBounds, frameSignal, historyAfter}
+use Rattle.widths.specs.Widths.{frameSignal, historyAfter}
+use Rattle.state.specs.State.{freshState, inBounds}
 use Rattle.state.specs.declared.State.{State}
 use Rattle.state.proofs.Bounds.{fresh-in-bounds}
 use Rattle.decoder.specs.Frame.{frameState, receivedTo, receivedState}

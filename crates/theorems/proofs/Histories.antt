@@ -22,7 +22,8 @@ use Rattle.voicing.specs.declared.Voicing.the-variants.{Unvoiced, Voiced}
 use Rattle.noise.specs.Noise.{attenuated, startWord, wordAfter, noiseSubframe}
 use Rattle.erasure.specs.Erasure.{replayed, erasedExcitation}
 use Rattle.record.specs.declared.Block.{Block}
-use Rattle.state.specs.State.{areWords, frameSignal, historyAfter}
+use Rattle.widths.specs.Widths.{frameSignal, historyAfter}
+use Rattle.state.specs.State.{areWords}
 use Rattle.state.proofs.Bounds.{words-from}
 use Rattle.decoder.specs.Frame.{receivedTo}
 use Rattle.theorems.proofs.Words.{word-fits, tabulate-fits}

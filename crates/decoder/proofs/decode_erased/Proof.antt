@@ -13,7 +13,7 @@ use Rattle.integers.specs.Expression.{is-arg, is-cast, need-cast}
 use Rattle.stability.specs.Stability.{checkOrPrevious}
 use Rattle.voicing.specs.Voicing.{voicingOf}
 use Rattle.erasure.specs.Erasure.{erasedExcitation}
-use Rattle.state.specs.State.{frameSignal}
+use Rattle.widths.specs.Widths.{frameSignal}
 use Rattle.state.specs.declared.State.{State}
 use Rattle.state.proofs.Bounds.{signal-narrowed}
 use Rattle.decoder.specs.Frame.{plainInputs, frameSamples, frameState}

@@ -12,7 +12,7 @@ use Rattle.excitation.specs.declared.Subframe.{Subframe}
 use Rattle.excitation.specs.declared.Subframe.the-variants.{Zero, One, Two, Three}
 use Rattle.record.specs.Record.{number}
 use Rattle.record.specs.declared.Block.{Block}
-use Rattle.state.specs.State.{frameSignal}
+use Rattle.widths.specs.Widths.{frameSignal}
 use Rattle.state.specs.declared.State.{State}
 use Rattle.state.proofs.Bounds.{signal-narrowed}
 use Rattle.decoder.specs.Frame.{frameSamples, frameState, block, receivedTo}

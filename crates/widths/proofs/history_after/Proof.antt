@@ -7,8 +7,8 @@ use Rattle.integers.specs.Base.{entry, Fills}
 use Rattle.integers.specs.Signed.{widen}
 use Rattle.integers.specs.Expression.{is-arg, is-cast, need-cast}
 use Rattle.integers.specs.Fill.{fills-start, fills-next, fills-end}
-use Rattle.state.proofs.history_after.Statement.{statement}
-use Rattle.state.proofs.history_after.Tie as tie
+use Rattle.widths.proofs.history_after.Statement.{statement}
+use Rattle.widths.proofs.history_after.Tie as tie
 
 abbrev Inv-loop : tie.InvT-loop
 Inv-loop signal h₀ i₀ h i = Fills (λ j. entry signal (240 + j)) 146 h i

@@ -9,10 +9,10 @@ use Rattle.integers.specs.Base.{entry, tabulate}
 use Rattle.integers.specs.Signed.{back, read-back}
 use Rattle.integers.specs.Fill.{rest-start, rest-next}
 use Rattle.basicop.specs.Operators.{word16}
-use Rattle.state.proofs.Fill.{rest-all}
-use Rattle.state.proofs.Bounds.{past-narrowed}
-use Rattle.state.proofs.frame_signal.Statement.{statement}
-use Rattle.state.proofs.frame_signal.Tie as tie
+use Rattle.widths.proofs.Fill.{rest-all}
+use Rattle.widths.proofs.Narrowed.{past-narrowed}
+use Rattle.widths.proofs.frame_signal.Statement.{statement}
+use Rattle.widths.proofs.frame_signal.Tie as tie
 
 abbrev Inv-loop : tie.InvT-loop
 Inv-loop exc-hist x₀ i₀ x i = (i ≤ 146) × (x ≡ tabulate (λ j. word16 (entry exc-hist j)) i ++ drop i (replicate 386 (pos 0)))

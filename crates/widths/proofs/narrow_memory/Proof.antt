@@ -6,8 +6,8 @@ use Rattle.integers.specs.Base.{entry, Fills}
 use Rattle.integers.specs.Signed.{back, read-back}
 use Rattle.integers.specs.Fill.{fills-start, fills-next, fills-end}
 use Rattle.basicop.specs.Operators.{word16}
-use Rattle.state.proofs.narrow_memory.Statement.{statement}
-use Rattle.state.proofs.narrow_memory.Tie as tie
+use Rattle.widths.proofs.narrow_memory.Statement.{statement}
+use Rattle.widths.proofs.narrow_memory.Tie as tie
 
 abbrev Inv-loop : tie.InvT-loop
 Inv-loop syn-mem m₀ i₀ m i = Fills (λ j. word16 (entry syn-mem j)) 10 m i

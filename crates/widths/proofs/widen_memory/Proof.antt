@@ -7,8 +7,8 @@ use Rattle.integers.specs.Base.{entry, AllFit, Fills}
 use Rattle.integers.specs.Signed.{widen, all-fit}
 use Rattle.integers.specs.Expression.{is-arg, is-cast, need-cast}
 use Rattle.integers.specs.Fill.{fills-start, fills-next, fills-end, entries-all}
-use Rattle.state.proofs.widen_memory.Statement.{statement}
-use Rattle.state.proofs.widen_memory.Tie as tie
+use Rattle.widths.proofs.widen_memory.Statement.{statement}
+use Rattle.widths.proofs.widen_memory.Tie as tie
 
 abbrev Inv-loop : tie.InvT-loop
 Inv-loop mem m₀ i₀ m i = Fills (entry mem) 10 m i
