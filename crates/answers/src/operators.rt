@@ -37,7 +37,7 @@ fn shift(n: u64, a: i16, count: i32) {
 // One operand.
 fn unary(n: u64, w: Word) {
     if n == names::ISQRT64 {
-        print64(root::isqrt64(w.size) as u64);
+        print64(isqrt::isqrt64(w.size) as u64);
     } else if n == names::SAT32 {
         print32(basicop32::sat32(number64(w)));
     } else if n == names::SATURATE {

@@ -7,7 +7,7 @@ use native.Mathlib.Nat.{mul-le-mul, mul-le-mul-right, div-lt-iff-lt-mul, div-le-
 use native.Mathlib.Omega.{arith}
 use borrow.Author.Tests.{le-leb, lt-leb}
 use Rattle.integers.specs.Natural.{le-or-lt}
-use Rattle.root.specs.Root.{root, root-is}
+use Rattle.isqrt.specs.Root.{root, root-is}
 use Rattle.pitch.specs.Pitch.{gain}
 
 -- ---- the gain, in its two cases

@@ -5,7 +5,7 @@ use Prim.Native.Nat.{ℕ}
 use lib.Dec.{lit≤, lit<}
 use lib.IntN.{pos, negsuc}
 use Rattle.integers.specs.Base.{sumTo}
-use Rattle.root.specs.Root.{root-unique}
+use Rattle.isqrt.specs.Root.{root-unique}
 use Rattle.correlation.specs.Correlation.{correlation}
 use Rattle.excitation.specs.declared.Rate.{Rate}
 use Rattle.excitation.specs.declared.Rate.the-variants.{High, Low}

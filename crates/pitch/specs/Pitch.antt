@@ -6,7 +6,7 @@ use lib.Dec.{ltb, leb, eqb}
 use lib.IntN.{ℤ, pos, natAbs, _+ℤ_, _*ℤ_}
 use Rattle.integers.specs.Base.{floorDiv, entry, tabulate}
 use Rattle.tables.specs.Constants.{subframeSize, ltpGammaHigh, ltpGammaLow, pitchGate}
-use Rattle.root.specs.Root.{root}
+use Rattle.isqrt.specs.Root.{root}
 use Rattle.correlation.specs.Correlation.{energy}
 use Rattle.excitation.specs.declared.Rate.{Rate}
 use Rattle.excitation.specs.declared.Rate.the-variants.{High, Low}

@@ -119,7 +119,7 @@ fn level_q15(t: u64, e: u64) -> u32
     ensures { λ r. ⌜ r ≤ 32768 ⌝ }
 {
     let ratio = quotient::divide(wide::product(t, 0x4000_0000), Wide { hi: 0, lo: e });
-    root::isqrt64(ratio.lo)
+    isqrt::isqrt64(ratio.lo)
 }
 
 fn level_sample(g: u32, z: i32) -> i32

@@ -9,7 +9,7 @@ use Rattle.integers.specs.Base.{floorDiv, limited, entry, tabulate}
 use Rattle.tables.specs.Constants.{lpcOrder, subframeSize, tiltKept, tiltParts, agcOne, agcMax, agcStep, agcBoost}
 use Rattle.tables.specs.Tables.{postfilterZeros, postfilterPoles}
 use Rattle.basicop.specs.Operators.{word16, mult16}
-use Rattle.root.specs.Root.{root}
+use Rattle.isqrt.specs.Root.{root}
 use Rattle.correlation.specs.Correlation.{correlation, energy}
 use Rattle.synthesis.specs.Synthesis.{poleZero, inputMemory, outputMemory}
 use Rattle.postfilter.specs.declared.Postfilter.{Postfilter}

@@ -94,7 +94,7 @@ fn gain_target(e: u64, f: u64) -> i32
     if f == 0 {
         return tables::AGC_ONE_Q12;
     }
-    let root = root::isqrt64(e * 0x100_0000 / f);
+    let root = isqrt::isqrt64(e * 0x100_0000 / f);
     if root < tables::AGC_GAIN_MAX_Q12 as u32 {
         root as i32
     } else {

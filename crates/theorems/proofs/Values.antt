@@ -1,5 +1,5 @@
 -- The starred values, each computed in the crate of its definition.
-use Rattle.root.proofs.Values as root
+use Rattle.isqrt.proofs.Values as isqrt
 use Rattle.stability.proofs.Values as stability
 use Rattle.lpc.proofs.Values as lpc
 use Rattle.positions.proofs.Values as positions
@@ -14,8 +14,8 @@ starred-values = record {
   cosine-of-64 = lpc.cosine-of-64;
   cosine-of-32767 = lpc.cosine-of-32767;
   stabilised-1000-1100 = stability.stabilised-1000-1100;
-  root-of-15 = root.root-of-15;
-  root-of-16 = root.root-of-16;
+  root-of-15 = isqrt.root-of-15;
+  root-of-16 = isqrt.root-of-16;
   six-0 = positions.slots-of-six-0;
   six-118754 = positions.slots-of-six-118754;
   six-118755 = positions.slots-of-six-118755;

@@ -3,7 +3,7 @@ use mathlib.Core.Path.{_≡_}
 use mathlib.Core.Bool.{true, false}
 use mathlib.Core.List.{[], _∷_}
 use lib.IntN.{pos, negsuc}
-use Rattle.root.specs.Root.{root}
+use Rattle.isqrt.specs.Root.{root}
 use Rattle.stability.specs.Stability.{stabilised}
 use Rattle.lpc.specs.Lpc.{cosine}
 use Rattle.positions.specs.Positions.{slots, positions}

@@ -2,7 +2,7 @@ use mathlib.Core.Path.{_≡_, sym, ap, _∙_, subst}
 use Prim.Native.Nat.{ℕ, _*_, _/_, _^_, _≤_}
 use native.Mathlib.Nat.{zero-add}
 use native.Mathlib.Omega.{arith}
-use Rattle.root.specs.Root.{root}
+use Rattle.isqrt.specs.Root.{root}
 use Rattle.pitch.proofs.Sizes.{ratio-most, root-most}
 use Rattle.pitch.proofs.level_q15.Statement.{statement}
 use Rattle.pitch.proofs.level_q15.Tie as tie

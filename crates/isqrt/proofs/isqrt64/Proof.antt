@@ -4,10 +4,10 @@ use Prim.Native.Nat.{_≤_}
 use native.Mathlib.Omega.{arith}
 use borrow.Author.Needs.{needs}
 use lib.Count.{leadingZeros, leading-top}
-use Rattle.root.specs.Root.{root}
-use Rattle.root.proofs.Digits.{Partial, partial-same, partial-start, turn-fits, turn-next, turn-kept, partial-end}
-use Rattle.root.proofs.isqrt64.Statement.{statement}
-use Rattle.root.proofs.isqrt64.Tie as tie
+use Rattle.isqrt.specs.Root.{root}
+use Rattle.isqrt.proofs.Digits.{Partial, partial-same, partial-start, turn-fits, turn-next, turn-kept, partial-end}
+use Rattle.isqrt.proofs.isqrt64.Statement.{statement}
+use Rattle.isqrt.proofs.isqrt64.Tie as tie
 
 abbrev Inv-loop : tie.InvT-loop
 Inv-loop v x₀ r₀ bit₀ x r bit = Partial v x r bit

@@ -4,7 +4,7 @@ use Prim.Native.Nat.{ℕ, zero, suc, _+_, _*_, _-_, _/_, _%_, _^_, _≤_, _<_}
 use native.Mathlib.Nat.{lt-of-lt-of-le, mul-le-mul, mod-eq-of-lt, one-mul, pow-succ'}
 use native.Mathlib.Omega.{arith}
 use lib.Pow.{pow-add, pow-lt, pow-mono, pow-pos}
-use Rattle.root.specs.Root.{root, root-unique}
+use Rattle.isqrt.specs.Root.{root, root-unique}
 
 -- the root so far: what its square leaves of v is x, v is below the square of the root so far and 2 ^ log more, and the code's r and bit are these two numbers
 pub record Partial (v x r bit : ℕ) : Type 0 where
