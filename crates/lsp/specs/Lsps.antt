@@ -1,4 +1,4 @@
--- LSPs (document 01, "LSPs"; the Rust's qdec.rs): interpolated, and candidates of erased frames. An LSP f is the frequency π f / 32768; clauses are those of G.723.1 that the Rust names.
+-- LSPs (document 01, "LSPs"; the Rust's qdec.rs): interpolated, and candidates of erased frames. Clauses are those of G.723.1 that the Rust names.
 use mathlib.Core.List.{List}
 use Prim.Native.Nat.{ℕ, zero, suc}
 use lib.IntN.{ℤ, pos, _+ℤ_, _*ℤ_}

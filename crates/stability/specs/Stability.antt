@@ -1,4 +1,4 @@
--- Stabilised LSPs (document 01, "LSPs"; the Rust's qdec.rs): candidates whose short gaps are widened. LSPs and clauses are as in crate lsp's Lsps.
+-- Stabilised LSPs (document 01, "LSPs"; the Rust's qdec.rs): candidates whose short gaps are widened. An LSP f is the frequency π f / 32768; clauses are those of G.723.1 that the Rust names.
 use mathlib.Core.Bool.{Bool, true, false, cond, not, _||_}
 use mathlib.Core.List.{List}
 use Prim.Native.Nat.{ℕ, zero, suc, _+_}
