@@ -26,7 +26,7 @@ fn heard(s: State, record: &[u8], samples: &mut [i16]) -> Turn {
     let v = a.verdict;
     let next = a.state;
     Turn {
-        number: refusals::verdict_number(v),
+        number: numbers::verdict_number(v),
         sum: sums::sum16(0, samples),
         state: next,
     }

@@ -7,12 +7,13 @@ use lib.IntN.{ℤ}
 use lib.ListN.{length}
 use Rattle.tables.specs.Constants.{frameSize}
 use Rattle.excitation.specs.declared.Rate.the-variants as rates
-use Rattle.refusals.specs.Refusals.{number, found}
-use Rattle.refusals.specs.declared.Refusal.{Refusal}
-use Rattle.refusals.specs.declared.Refusal.the-variants.{SampleLength, StateBounds}
+use Rattle.numbers.specs.Numbers.{number}
+use Rattle.refusals.specs.Refusals.{found}
+use Rattle.numbers.specs.declared.Refusal.{Refusal}
+use Rattle.numbers.specs.declared.Refusal.the-variants.{SampleLength, StateBounds}
 use Rattle.refusals.specs.declared.Found.{Found}
 use Rattle.refusals.specs.declared.Found.the-variants.{Erased, High, Low, Refused}
-use Rattle.refusals.specs.declared.Verdict.the-variants as verdicts
+use Rattle.numbers.specs.declared.Verdict.the-variants as verdicts
 use Rattle.state.specs.State.{inBounds}
 use Rattle.state.specs.declared.State.{State}
 use Rattle.decoder.specs.Frame.{erasedSamples, erasedState, receivedSamples, receivedState}

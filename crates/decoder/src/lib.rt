@@ -4,17 +4,17 @@ ghost use mathlib.Core.Bool.{true, cond};
 ghost use lib.ListN.{length};
 ghost use Rattle.integers.specs.Base.{entry};
 ghost use Rattle.record.specs.Record.{number};
-ghost use Rattle.refusals.specs.Refusals.{numberOf};
+ghost use Rattle.numbers.specs.Numbers.{numberOf};
 ghost use Rattle.state.specs.State.{inBounds};
 ghost use Rattle.decoder.specs.Frame.{plainInputs, pitchInputs, receivedTo, frameSamples, frameState, erasedSamples, erasedState, receivedSamples, receivedState};
 ghost use Rattle.decoder.specs.Decoder.{refusal, acceptance, answerOf, firstNumber, samplesOf};
 use excitation::Rate;
 use excitation::Subframe;
+use numbers::Refusal;
+use numbers::Verdict;
 use output::Filters;
 use record::Block;
 use refusals::Found;
-use refusals::Refusal;
-use refusals::Verdict;
 use state::State;
 
 // What is stored of a frame for erased ones (record_last_frame).

@@ -1,4 +1,4 @@
--- The ten numbers, and which of 3 to 10 a record gets (document 01, "The ten numbers, tested in this order"). r is the record's bytes.
+-- Which of the numbers 3 to 10 a record gets (document 01, "The ten numbers, tested in this order"). r is the record's bytes.
 use mathlib.Core.Bool.{Bool, cond, not, _&&_, _||_}
 use mathlib.Core.List.{List}
 use Prim.Native.Nat.{ℕ, zero, suc, _^_}
@@ -11,30 +11,9 @@ use Rattle.excitation.specs.declared.Subframe.the-variants.{Zero, One, Two, Thr
 use Rattle.excitation.specs.declared.Rate.{Rate}
 use Rattle.excitation.specs.declared.Rate.the-variants as rates
 use Rattle.record.specs.Record.{byte, baseLag, gainIndex, flags, train, signs, count}
-use Rattle.refusals.specs.declared.Refusal.{Refusal}
-use Rattle.refusals.specs.declared.Refusal.the-variants.{SampleLength, StateBounds, NoByte, Kind, Length, LagCode, StepCode, GainIndex, Flags, Signs}
-use Rattle.refusals.specs.declared.Verdict.{Verdict}
-use Rattle.refusals.specs.declared.Verdict.the-variants as verdicts
+use Rattle.numbers.specs.declared.Refusal.the-variants.{NoByte, Kind, Length, LagCode, StepCode, GainIndex, Flags, Signs}
 use Rattle.refusals.specs.declared.Found.{Found}
 use Rattle.refusals.specs.declared.Found.the-variants.{Erased, High, Low, Refused}
-
--- the paper's numbers
-abbrev pub number : Refusal → ℕ
-number SampleLength = 1
-number StateBounds = 2
-number NoByte = 3
-number Kind = 4
-number Length = 5
-number LagCode = 6
-number StepCode = 7
-number GainIndex = 8
-number Flags = 9
-number Signs = 10
-
--- that of a verdict; 0 where the record was accepted
-abbrev pub numberOf : Verdict → ℕ
-numberOf verdicts.Accepted = 0
-numberOf (verdicts.Refused n) = number n
 
 -- ---- what each number asks
 

@@ -3,62 +3,16 @@ ghost use mathlib.Core.Path.{_≡_};
 ghost use lib.Dec.{ltb};
 ghost use Rattle.tables.specs.Constants.{gainIndexMax};
 ghost use Rattle.record.specs.Record.{gainIndex};
-ghost use Rattle.refusals.specs.Refusals.{number, numberOf, bytesOf, wrongLagCode, wrongStepCode, wrongGainIndex, wrongFlagsIn, wrongFlags, wrongSignsIn, wrongSigns, foundHigh, foundReceived, found};
+ghost use Rattle.refusals.specs.Refusals.{bytesOf, wrongLagCode, wrongStepCode, wrongGainIndex, wrongFlagsIn, wrongFlags, wrongSignsIn, wrongSigns, foundHigh, foundReceived, found};
 use excitation::Rate;
 use excitation::Subframe;
-
-// The ten refusals, in the order of their numbers. The first two are not of a record.
-pub enum Refusal {
-    SampleLength,
-    StateBounds,
-    NoByte,
-    Kind,
-    Length,
-    LagCode,
-    StepCode,
-    GainIndex,
-    Flags,
-    Signs,
-}
-
-// What the decoder says of a record.
-pub enum Verdict {
-    Accepted,
-    Refused(Refusal),
-}
+use numbers::Refusal;
 
 pub enum Found {
     Erased,
     High,
     Low,
     Refused(Refusal),
-}
-
-fn refusal_number(n: Refusal) -> u8
-    ensures { λ r. ⌜ r ≡ number n ⌝ }
-{
-    match n {
-        Refusal::SampleLength => 1,
-        Refusal::StateBounds => 2,
-        Refusal::NoByte => 3,
-        Refusal::Kind => 4,
-        Refusal::Length => 5,
-        Refusal::LagCode => 6,
-        Refusal::StepCode => 7,
-        Refusal::GainIndex => 8,
-        Refusal::Flags => 9,
-        Refusal::Signs => 10,
-    }
-}
-
-// The number on the display; 0 where there is none.
-pub fn verdict_number(v: Verdict) -> u8
-    ensures { λ r. ⌜ r ≡ numberOf v ⌝ }
-{
-    match v {
-        Verdict::Accepted => 0,
-        Verdict::Refused(n) => refusal_number(n),
-    }
 }
 
 // The length of a record of a kind.

@@ -20,7 +20,7 @@ use Rattle.voicing.specs.Voicing.{voicingOf}
 use Rattle.record.specs.Record.{byte, blockOf}
 use Rattle.refusals.specs.Refusals.{found}
 use Rattle.refusals.proofs.Accepted.{codes-high, codes-low}
-use Rattle.refusals.specs.declared.Refusal.the-variants.{SampleLength, StateBounds}
+use Rattle.numbers.specs.declared.Refusal.the-variants.{SampleLength, StateBounds}
 use Rattle.refusals.specs.declared.Found.{Found}
 use Rattle.refusals.specs.declared.Found.the-variants.{Erased, High, Low, Refused}
 use Rattle.state.specs.State.{inBounds}

@@ -15,8 +15,8 @@ use Rattle.record.specs.Record.{candidates, blockOf}
 use Rattle.refusals.specs.Refusals.{found}
 use Rattle.refusals.specs.declared.Found.{Found}
 use Rattle.refusals.specs.declared.Found.the-variants.{Erased, High, Low, Refused}
-use Rattle.refusals.specs.declared.Refusal.{Refusal}
-use Rattle.refusals.specs.declared.Refusal.the-variants.{SampleLength, StateBounds}
+use Rattle.numbers.specs.declared.Refusal.{Refusal}
+use Rattle.numbers.specs.declared.Refusal.the-variants.{SampleLength, StateBounds}
 use Rattle.widths.specs.Widths.{frameSignal, historyAfter}
 use Rattle.state.specs.State.{freshState, inBounds}
 use Rattle.state.specs.declared.State.{State}

@@ -5,8 +5,8 @@ use Prim.Native.Nat.{ℕ}
 use lib.IntN.{ℤ}
 use Rattle.state.specs.declared.State.{State}
 use Rattle.decoder.specs.Decoder.{answerOf, samplesOf}
-use Rattle.refusals.specs.declared.Verdict.{Verdict}
-use Rattle.refusals.specs.declared.Verdict.the-variants.{Accepted, Refused}
+use Rattle.numbers.specs.declared.Verdict.{Verdict}
+use Rattle.numbers.specs.declared.Verdict.the-variants.{Accepted, Refused}
 
 -- a record's bytes, and the samples that the decoder is lent for it
 pub record Item : Type 0 where

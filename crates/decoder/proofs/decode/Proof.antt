@@ -2,7 +2,7 @@ use mathlib.Core.Path.{_≡_, sym, ap, _∙_}
 use mathlib.Core.Bool.{true}
 use borrow.Author.Needs.{needs}
 use lib.ListN.{length}
-use Rattle.refusals.specs.declared.Refusal.the-variants.{SampleLength, StateBounds}
+use Rattle.numbers.specs.declared.Refusal.the-variants.{SampleLength, StateBounds}
 use Rattle.refusals.specs.declared.Found.{Found}
 use Rattle.state.specs.State.{inBounds}
 use Rattle.integers.specs.Truth.{not-true, not-false}

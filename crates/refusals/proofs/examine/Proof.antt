@@ -7,7 +7,7 @@ use lib.Dec.{ltb, eqb}
 use lib.ListN.{length}
 use Rattle.excitation.specs.declared.Rate.the-variants.{High}
 use Rattle.record.specs.Record.{byte}
-use Rattle.refusals.specs.declared.Refusal.the-variants.{Length}
+use Rattle.numbers.specs.declared.Refusal.the-variants.{Length}
 use Rattle.refusals.specs.declared.Found.{Found}
 use Rattle.refusals.specs.declared.Found.the-variants.{Refused}
 use Rattle.refusals.specs.Refusals.{wrongLength, bytesOf, foundReceived, foundOf, found}
