@@ -3,7 +3,7 @@ ghost use mathlib.Core.Path.{_≡_};
 ghost use mathlib.Core.Bool.{true, cond};
 ghost use lib.ListN.{length};
 ghost use Rattle.integers.specs.Base.{entry};
-ghost use Rattle.record.specs.Record.{number};
+ghost use Rattle.layout.specs.Layout.{number};
 ghost use Rattle.numbers.specs.Numbers.{numberOf};
 ghost use Rattle.state.specs.State.{inBounds};
 ghost use Rattle.decoder.specs.Frame.{plainInputs, pitchInputs, receivedTo, frameSamples, frameState, erasedSamples, erasedState, receivedSamples, receivedState};

@@ -4,7 +4,6 @@ use mathlib.Core.List.{List}
 use Prim.Native.Nat.{ℕ, _+_, _*_, _/_, _%_}
 use lib.Dec.{ltb, eqb}
 use lib.IntN.{ℤ, pos, _+ℤ_, _-ℤ_}
-use lib.ListN.{getD}
 use Rattle.integers.specs.Base.{tabulate}
 use Rattle.tables.specs.Constants.{lpcOrder, subframeSize, acbTaps, pitchMin, stepCodeZero}
 use Rattle.positions.specs.declared.Count.{Count}
@@ -15,12 +14,10 @@ use Rattle.excitation.specs.declared.Subframe.{Subframe}
 use Rattle.excitation.specs.declared.Subframe.the-variants.{Zero, One, Two, Three}
 use Rattle.excitation.specs.declared.Rate.{Rate}
 use Rattle.excitation.specs.declared.Rate.the-variants.{High, Low}
+use Rattle.layout.specs.Layout.{byte, lagPlace, blockPlace}
 use Rattle.record.specs.declared.Block.{Block}
 
--- ---- bytes and values
-
-abbrev pub byte : List ℕ → ℕ → ℕ
-byte r i = getD r i 0
+-- ---- values
 
 -- sixteen bits as two's complement
 abbrev pub twosComplement : ℕ → ℤ
@@ -40,13 +37,6 @@ words r i n = tabulate (λ k. word r (i + 2 * k)) n
 abbrev pub candidates : List ℕ → List ℤ
 candidates r = words r 1 lpcOrder
 
--- the byte of a subframe's base lag code: code A serves subframes 0 and 1, code B 2 and 3
-abbrev pub lagPlace : Subframe → ℕ
-lagPlace Zero = 21
-lagPlace One = 21
-lagPlace Two = 23
-lagPlace Three = 23
-
 abbrev pub baseLag : List ℕ → Subframe → ℕ
 baseLag r s = byte r (lagPlace s) + pitchMin
 
@@ -62,20 +52,6 @@ lag r Two = pos (baseLag r Two)
 lag r Three = pos (baseLag r Three) +ℤ step (byte r 24)
 
 -- ---- blocks
-
-abbrev pub blockSize : Rate → ℕ
-blockSize High = 16
-blockSize Low = 131
-
-abbrev pub number : Subframe → ℕ
-number Zero = 0
-number One = 1
-number Two = 2
-number Three = 3
-
--- the first byte of a subframe's block
-abbrev pub blockPlace : Rate → Subframe → ℕ
-blockPlace rate s = 25 + number s * blockSize rate
 
 -- both kinds: five taps and a gain index
 abbrev pub taps : Rate → List ℕ → Subframe → List ℤ

@@ -1,7 +1,8 @@
 // The fields of a record, read from its bytes and a place.
 ghost use mathlib.Core.Path.{_≡_};
 ghost use Prim.Native.Nat.{_+_, _*_, _<_};
-ghost use Rattle.record.specs.Record.{byte, word, words, candidates, lagPlace, baseLag, lag, blockPlace, count, description, fixed, blockOf};
+ghost use Rattle.layout.specs.Layout.{byte, lagPlace, blockPlace};
+ghost use Rattle.record.specs.Record.{word, words, candidates, baseLag, lag, count, description, fixed, blockOf};
 use excitation::Rate;
 use excitation::Subframe;
 use positions::Count;
@@ -16,19 +17,12 @@ pub struct Block {
     pub fixed: [i32; 60],
 }
 
-// The byte at a place; 0 past the end.
-pub fn byte_at(record: &[u8], at: usize) -> u8
-    ensures { λ r. ⌜ r ≡ byte (now («record» .entry)) at ⌝ }
-{
-    if at < record.len() { record[at] } else { 0 }
-}
-
 // Two bytes, big-endian two's complement.
 fn word_at(record: &[u8], at: usize) -> i16
     requires { ⌜ at < 1000 ⌝ }
     ensures { λ r. ⌜ r ≡ word (now («record» .entry)) at ⌝ }
 {
-    let n = byte_at(record, at) as u32 * 256 + byte_at(record, at + 1) as u32;
+    let n = layout::byte_at(record, at) as u32 * 256 + layout::byte_at(record, at + 1) as u32;
     if n < 32768 {
         n as i16
     } else {
@@ -49,39 +43,10 @@ pub fn candidate_lsps(record: &[u8]) -> [i16; 10]
     out
 }
 
-// The byte of a subframe's base lag code.
-pub fn lag_place(s: Subframe) -> usize
-    ensures { λ r. ⌜ r ≡ lagPlace s ⌝ }
-{
-    match s {
-        Subframe::Zero => 21,
-        Subframe::One => 21,
-        Subframe::Two => 23,
-        Subframe::Three => 23,
-    }
-}
-
-// The first byte of a subframe's block.
-pub fn block_place(rate: Rate, s: Subframe) -> usize
-    ensures { λ r. ⌜ r ≡ blockPlace rate s ⌝ }
-{
-    let size = match rate {
-        Rate::High => 16usize,
-        Rate::Low => 131usize,
-    };
-    let number = match s {
-        Subframe::Zero => 0usize,
-        Subframe::One => 1usize,
-        Subframe::Two => 2usize,
-        Subframe::Three => 3usize,
-    };
-    25 + number * size
-}
-
 fn base_lag(record: &[u8], s: Subframe) -> u16
     ensures { λ r. ⌜ r ≡ baseLag (now («record» .entry)) s ⌝ }
 {
-    byte_at(record, lag_place(s)) as u16 + tables::PITCH_MIN as u16
+    layout::byte_at(record, layout::lag_place(s)) as u16 + tables::PITCH_MIN as u16
 }
 
 // Step codes 0, 1, 2, 3 add -1, 0, 1, 2 (the Rust's DELTA_LAG); an even subframe has none, and adds 0.
@@ -91,9 +56,9 @@ fn own_lag(record: &[u8], s: Subframe) -> i32
     let base = base_lag(record, s);
     let code = match s {
         Subframe::Zero => tables::STEP_CODE_ZERO,
-        Subframe::One => byte_at(record, 22),
+        Subframe::One => layout::byte_at(record, 22),
         Subframe::Two => tables::STEP_CODE_ZERO,
-        Subframe::Three => byte_at(record, 24),
+        Subframe::Three => layout::byte_at(record, 24),
     };
     base as i32 + (code as i32 - tables::STEP_CODE_ZERO as i32)
 }
@@ -129,9 +94,9 @@ fn code_at(record: &[u8], at: usize) -> u32
     requires { ⌜ at < 1000 ⌝ }
     ensures { λ r. ⌜ r ≡ byte (now («record» .entry)) at * 65536 + byte (now («record» .entry)) (at + 1) * 256 + byte (now («record» .entry)) (at + 2) ⌝ }
 {
-    let high = byte_at(record, at) as u32;
-    let middle = byte_at(record, at + 1) as u32;
-    let low = byte_at(record, at + 2) as u32;
+    let high = layout::byte_at(record, at) as u32;
+    let middle = layout::byte_at(record, at + 1) as u32;
+    let low = layout::byte_at(record, at + 2) as u32;
     high * 65536 + middle * 256 + low
 }
 
@@ -149,13 +114,13 @@ fn pulse_count(s: Subframe) -> Count
 fn pulse_description(record: &[u8], s: Subframe) -> Description
     ensures { λ r. ⌜ r ≡ description (now («record» .entry)) s ⌝ }
 {
-    let at = block_place(Rate::High, s);
-    let flags = byte_at(record, at + 11);
+    let at = layout::block_place(Rate::High, s);
+    let flags = layout::byte_at(record, at + 11);
     let n = pulse_count(s);
     let lag = base_lag(record, s);
     let code = code_at(record, at + 13);
-    let signs = byte_at(record, at + 12);
-    let gain = byte_at(record, at + 10);
+    let signs = layout::byte_at(record, at + 12);
+    let gain = layout::byte_at(record, at + 10);
     Description {
         count: n,
         train: flags / 2 % 2 == 1,
@@ -172,18 +137,18 @@ fn fixed_vector(record: &[u8], rate: Rate, s: Subframe) -> [i32; 60]
 {
     match rate {
         Rate::High => pulses::mpmlq_fixed_vector(pulse_description(record, s)),
-        Rate::Low => values_at(record, block_place(Rate::Low, s) + 11),
+        Rate::Low => values_at(record, layout::block_place(Rate::Low, s) + 11),
     }
 }
 
 pub fn read_block(record: &[u8], rate: Rate, s: Subframe) -> Block
     ensures { λ r. ⌜ r ≡ blockOf rate (now («record» .entry)) s ⌝ }
 {
-    let at = block_place(rate, s);
+    let at = layout::block_place(rate, s);
     let base = base_lag(record, s);
     let lag = own_lag(record, s);
     let taps = taps_at(record, at);
-    let gain = byte_at(record, at + 10);
+    let gain = layout::byte_at(record, at + 10);
     let fixed = fixed_vector(record, rate, s);
     Block {
         base_lag: base as i32,

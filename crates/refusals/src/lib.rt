@@ -29,21 +29,21 @@ fn record_bytes(kind: u8) -> usize
 fn lag_code_above(record: &[u8]) -> bool
     ensures { λ r. ⌜ r ≡ wrongLagCode (now («record» .entry)) ⌝ }
 {
-    record::byte_at(record, 21) > tables::LAG_CODE_MAX
-        || record::byte_at(record, 23) > tables::LAG_CODE_MAX
+    layout::byte_at(record, 21) > tables::LAG_CODE_MAX
+        || layout::byte_at(record, 23) > tables::LAG_CODE_MAX
 }
 
 fn step_code_above(record: &[u8]) -> bool
     ensures { λ r. ⌜ r ≡ wrongStepCode (now («record» .entry)) ⌝ }
 {
-    record::byte_at(record, 22) > tables::STEP_CODE_MAX
-        || record::byte_at(record, 24) > tables::STEP_CODE_MAX
+    layout::byte_at(record, 22) > tables::STEP_CODE_MAX
+        || layout::byte_at(record, 24) > tables::STEP_CODE_MAX
 }
 
 fn gain_above(record: &[u8], rate: Rate, s: Subframe) -> bool
     ensures { λ r. ⌜ r ≡ ltb gainIndexMax (gainIndex rate (now («record» .entry)) s) ⌝ }
 {
-    record::byte_at(record, record::block_place(rate, s) + 10) > tables::GAIN_INDEX_MAX
+    layout::byte_at(record, layout::block_place(rate, s) + 10) > tables::GAIN_INDEX_MAX
 }
 
 fn any_gain_above(record: &[u8], rate: Rate) -> bool
@@ -58,11 +58,11 @@ fn any_gain_above(record: &[u8], rate: Rate) -> bool
 fn flags_wrong(record: &[u8], s: Subframe) -> bool
     ensures { λ r. ⌜ r ≡ wrongFlagsIn (now («record» .entry)) s ⌝ }
 {
-    let flags = record::byte_at(record, record::block_place(Rate::High, s) + 11);
+    let flags = layout::byte_at(record, layout::block_place(Rate::High, s) + 11);
     if flags > tables::FLAGS_MAX {
         return true;
     }
-    let lag = record::byte_at(record, record::lag_place(s)) as i32 + tables::PITCH_MIN;
+    let lag = layout::byte_at(record, layout::lag_place(s)) as i32 + tables::PITCH_MIN;
     flags / 2 % 2 == 1 && lag >= tables::TRAIN_LAG_LIMIT
 }
 
@@ -77,7 +77,7 @@ fn any_flags_wrong(record: &[u8]) -> bool
 fn signs_wrong(record: &[u8], s: Subframe) -> bool
     ensures { λ r. ⌜ r ≡ wrongSignsIn (now («record» .entry)) s ⌝ }
 {
-    let signs = record::byte_at(record, record::block_place(Rate::High, s) + 12);
+    let signs = layout::byte_at(record, layout::block_place(Rate::High, s) + 12);
     match s {
         Subframe::Zero => signs >= 64,
         Subframe::One => signs >= 32,
@@ -130,7 +130,7 @@ pub fn examine(record: &[u8]) -> Found
     if record.len() == 0 {
         return Found::Refused(Refusal::NoByte);
     }
-    let kind = record::byte_at(record, 0);
+    let kind = layout::byte_at(record, 0);
     if kind > 2 {
         return Found::Refused(Refusal::Kind);
     }

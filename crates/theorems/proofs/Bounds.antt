@@ -17,7 +17,8 @@ use Rattle.excitation.specs.declared.Rate.{Rate}
 use Rattle.excitation.specs.declared.Rate.the-variants as rates
 use Rattle.noise.specs.Noise.{nextRun}
 use Rattle.voicing.specs.Voicing.{voicingOf}
-use Rattle.record.specs.Record.{byte, blockOf}
+use Rattle.layout.specs.Layout.{byte}
+use Rattle.record.specs.Record.{blockOf}
 use Rattle.refusals.specs.Refusals.{found}
 use Rattle.refusals.proofs.Accepted.{codes-high, codes-low}
 use Rattle.numbers.specs.declared.Refusal.the-variants.{SampleLength, StateBounds}

@@ -6,7 +6,8 @@ use lib.Signed.{_≤ℤ_}
 use Rattle.integers.specs.Linear.{line, line-add, line-sub}
 use Rattle.excitation.specs.declared.Subframe.the-variants.{Two, Three}
 use Rattle.excitation.specs.declared.Rate.{Rate}
-use Rattle.record.specs.Record.{byte, step, blockOf}
+use Rattle.layout.specs.Layout.{byte}
+use Rattle.record.specs.Record.{step, blockOf}
 
 module _ (rate : Rate) (r : List ℕ) where
   -- of subframe 3: the step code is 0 to 3, which add -1 to 2

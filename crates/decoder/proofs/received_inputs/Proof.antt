@@ -5,7 +5,7 @@ use lib.IntN.{ℤ}
 use mir.Syntax.{w32}
 use Rattle.integers.specs.Base.{entry}
 use Rattle.integers.specs.Signed.{read-back}
-use Rattle.record.specs.Record.{number}
+use Rattle.layout.specs.Layout.{number}
 use Rattle.excitation.specs.Excitation.{place}
 use Rattle.excitation.specs.declared.Subframe.{Subframe}
 use Rattle.excitation.specs.declared.Subframe.the-variants.{Zero, One, Two, Three}

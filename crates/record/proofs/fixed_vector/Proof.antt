@@ -6,7 +6,7 @@ use Rattle.pulses.specs.Pulses.{vector}
 use Rattle.excitation.specs.declared.Rate.{Rate}
 use Rattle.excitation.specs.declared.Rate.the-variants.{Low}
 use Rattle.record.specs.Record.{words, fixed}
-use Rattle.record.proofs.Places.{place-bound}
+use Rattle.layout.proofs.Places.{place-bound}
 use Rattle.record.proofs.fixed_vector.Statement.{statement}
 use Rattle.record.proofs.fixed_vector.Tie as tie
 

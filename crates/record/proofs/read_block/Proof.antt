@@ -4,8 +4,9 @@ use native.Mathlib.Omega.{arith}
 use lib.IntN.{pos}
 use mir.Syntax.{w32}
 use Rattle.integers.specs.Signed.{back}
-use Rattle.record.specs.Record.{byte, words, blockOf}
-use Rattle.record.proofs.Places.{place-bound}
+use Rattle.layout.specs.Layout.{byte}
+use Rattle.record.specs.Record.{words, blockOf}
+use Rattle.layout.proofs.Places.{place-bound}
 use Rattle.record.proofs.read_block.Statement.{statement}
 use Rattle.record.proofs.read_block.Tie as tie
 

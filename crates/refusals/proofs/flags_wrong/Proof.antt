@@ -10,8 +10,9 @@ use mir.Val.{SFits}
 use Rattle.integers.specs.Base.{Is}
 use Rattle.integers.specs.Expression.{is-mag, is-lit, is-add, is-le, need-add}
 use Rattle.excitation.specs.declared.Rate.the-variants.{High}
-use Rattle.record.specs.Record.{byte, flags}
-use Rattle.record.proofs.Places.{place-bound}
+use Rattle.layout.specs.Layout.{byte}
+use Rattle.record.specs.Record.{flags}
+use Rattle.layout.proofs.Places.{place-bound}
 use Rattle.integers.specs.Truth.{or-here, or-there, and-here, and-there}
 use Rattle.refusals.proofs.flags_wrong.Statement.{statement}
 use Rattle.refusals.proofs.flags_wrong.Tie as tie

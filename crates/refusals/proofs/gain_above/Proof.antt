@@ -3,8 +3,8 @@ use Prim.Native.Nat.{ℕ, _+_}
 use native.Mathlib.Omega.{arith}
 use lib.Dec.{ltb}
 use Rattle.tables.specs.Constants.{gainIndexMax}
-use Rattle.record.specs.Record.{byte}
-use Rattle.record.proofs.Places.{place-bound}
+use Rattle.layout.specs.Layout.{byte}
+use Rattle.layout.proofs.Places.{place-bound}
 use Rattle.refusals.proofs.gain_above.Statement.{statement}
 use Rattle.refusals.proofs.gain_above.Tie as tie
 

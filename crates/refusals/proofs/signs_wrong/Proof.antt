@@ -7,8 +7,9 @@ use lib.Dec.{leb}
 use Rattle.positions.specs.Positions.{pulses}
 use Rattle.excitation.specs.declared.Subframe.{Subframe}
 use Rattle.excitation.specs.declared.Rate.the-variants.{High}
-use Rattle.record.specs.Record.{byte, signs, count}
-use Rattle.record.proofs.Places.{place-bound}
+use Rattle.layout.specs.Layout.{byte}
+use Rattle.record.specs.Record.{signs, count}
+use Rattle.layout.proofs.Places.{place-bound}
 use Rattle.refusals.specs.Refusals.{wrongSignsIn}
 use Rattle.refusals.proofs.signs_wrong.Statement.{statement}
 use Rattle.refusals.proofs.signs_wrong.Tie as tie

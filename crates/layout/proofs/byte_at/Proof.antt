@@ -1,7 +1,7 @@
 use mathlib.Core.Path.{refl, sym}
 use lib.ListN.{List·getD-eq-default}
-use Rattle.record.proofs.byte_at.Statement.{statement}
-use Rattle.record.proofs.byte_at.Tie as tie
+use Rattle.layout.proofs.byte_at.Statement.{statement}
+use Rattle.layout.proofs.byte_at.Tie as tie
 
 shared-slice-read-result : tie.Need-shared-slice-read-result
 shared-slice-read-result c = c .before .if1 .taken

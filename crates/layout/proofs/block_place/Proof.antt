@@ -5,10 +5,10 @@ use native.Mathlib.Omega.{arith}
 use borrow.Author.Needs.{needs}
 use Rattle.excitation.specs.declared.Subframe.{Subframe}
 use Rattle.excitation.specs.declared.Rate.{Rate}
-use Rattle.record.specs.Record.{number, blockSize, blockPlace}
-use Rattle.record.proofs.Places.{place-bound}
-use Rattle.record.proofs.block_place.Statement.{statement}
-use Rattle.record.proofs.block_place.Tie as tie
+use Rattle.layout.specs.Layout.{number, blockSize, blockPlace}
+use Rattle.layout.proofs.Places.{place-bound}
+use Rattle.layout.proofs.block_place.Statement.{statement}
+use Rattle.layout.proofs.block_place.Tie as tie
 
 enum-told : tie.Need-enum-told
 enum-told c = search needs

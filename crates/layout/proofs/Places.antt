@@ -5,7 +5,7 @@ use Rattle.excitation.specs.declared.Subframe.{Subframe}
 use Rattle.excitation.specs.declared.Subframe.the-variants.{Zero, One, Two, Three}
 use Rattle.excitation.specs.declared.Rate.{Rate}
 use Rattle.excitation.specs.declared.Rate.the-variants.{High, Low}
-use Rattle.record.specs.Record.{blockPlace}
+use Rattle.layout.specs.Layout.{blockPlace}
 
 pub place-bound : (rate : Rate) (s : Subframe) → blockPlace rate s ≤ 418
 place-bound High Zero = lit≤ tt

@@ -1,8 +1,8 @@
 use mathlib.Core.Path.{sym, ap}
 use borrow.Author.Needs.{needs}
-use Rattle.record.specs.Record.{lagPlace}
-use Rattle.record.proofs.lag_place.Statement.{statement}
-use Rattle.record.proofs.lag_place.Tie as tie
+use Rattle.layout.specs.Layout.{lagPlace}
+use Rattle.layout.proofs.lag_place.Statement.{statement}
+use Rattle.layout.proofs.lag_place.Tie as tie
 
 enum-told : tie.Need-enum-told
 enum-told c = search needs

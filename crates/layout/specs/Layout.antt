@@ -1,0 +1,38 @@
+-- The bytes of a record, and where its fields stand (document 01, "The record"). r is its bytes; past its end they read as 0.
+use mathlib.Core.List.{List}
+use Prim.Native.Nat.{ℕ, _+_, _*_}
+use lib.ListN.{getD}
+use Rattle.excitation.specs.declared.Subframe.{Subframe}
+use Rattle.excitation.specs.declared.Subframe.the-variants.{Zero, One, Two, Three}
+use Rattle.excitation.specs.declared.Rate.{Rate}
+use Rattle.excitation.specs.declared.Rate.the-variants.{High, Low}
+
+-- ---- bytes
+
+abbrev pub byte : List ℕ → ℕ → ℕ
+byte r i = getD r i 0
+
+-- ---- places
+
+-- the byte of a subframe's base lag code: code A serves subframes 0 and 1, code B 2 and 3
+abbrev pub lagPlace : Subframe → ℕ
+lagPlace Zero = 21
+lagPlace One = 21
+lagPlace Two = 23
+lagPlace Three = 23
+
+-- the bytes of a block
+abbrev pub blockSize : Rate → ℕ
+blockSize High = 16
+blockSize Low = 131
+
+-- a subframe's number
+abbrev pub number : Subframe → ℕ
+number Zero = 0
+number One = 1
+number Two = 2
+number Three = 3
+
+-- the first byte of a subframe's block
+abbrev pub blockPlace : Rate → Subframe → ℕ
+blockPlace rate s = 25 + number s * blockSize rate

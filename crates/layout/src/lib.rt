@@ -1,0 +1,41 @@
+// The bytes of a record, and where its fields stand.
+ghost use mathlib.Core.Path.{_≡_};
+ghost use Rattle.layout.specs.Layout.{byte, lagPlace, blockPlace};
+use excitation::Rate;
+use excitation::Subframe;
+
+// The byte at a place; 0 past the end.
+pub fn byte_at(record: &[u8], at: usize) -> u8
+    ensures { λ r. ⌜ r ≡ byte (now («record» .entry)) at ⌝ }
+{
+    if at < record.len() { record[at] } else { 0 }
+}
+
+// The byte of a subframe's base lag code.
+pub fn lag_place(s: Subframe) -> usize
+    ensures { λ r. ⌜ r ≡ lagPlace s ⌝ }
+{
+    match s {
+        Subframe::Zero => 21,
+        Subframe::One => 21,
+        Subframe::Two => 23,
+        Subframe::Three => 23,
+    }
+}
+
+// The first byte of a subframe's block.
+pub fn block_place(rate: Rate, s: Subframe) -> usize
+    ensures { λ r. ⌜ r ≡ blockPlace rate s ⌝ }
+{
+    let size = match rate {
+        Rate::High => 16usize,
+        Rate::Low => 131usize,
+    };
+    let number = match s {
+        Subframe::Zero => 0usize,
+        Subframe::One => 1usize,
+        Subframe::Two => 2usize,
+        Subframe::Three => 3usize,
+    };
+    25 + number * size
+}
