@@ -1,7 +1,8 @@
 // Hexadecimal text: digit pairs to bytes, and samples to digits.
 ghost use mathlib.Core.Path.{_≡_};
+ghost use mathlib.Core.Bool.{_&&_};
 ghost use Prim.Native.Nat.{_≤_, _<_, _+_, _*_, _%_};
-ghost use Rattle.digits.specs.Digits.{isDigit, digitValue, pairsOf, image, glyph as glyphOf, sampleLine};
+ghost use Rattle.digits.specs.Digits.{among, isDigit, digitValue, pairsOf, image, glyph as glyphOf, sampleLine};
 
 // A text read as digit pairs: whether it is that, and its bytes, `count` of them.
 pub struct Pairs {
@@ -10,24 +11,37 @@ pub struct Pairs {
     pub count: usize,
 }
 
+// b is a character of lo ..= hi.
+fn is_among(lo: u8, hi: u8, b: u8) -> bool
+    ensures { λ r. ⌜ r ≡ among lo hi b ⌝ }
+{
+    lo <= b && b <= hi
+}
+
 fn is_digit(b: u8) -> bool
     ensures { λ r. ⌜ r ≡ isDigit b ⌝ }
 {
-    (48 <= b && b <= 57) || (65 <= b && b <= 70) || (97 <= b && b <= 102)
+    if is_among(48, 57, b) {
+        return true;
+    }
+    if is_among(65, 70, b) {
+        return true;
+    }
+    is_among(97, 102, b)
 }
 
-// The second promise is for the pair's byte.
+// The second promise is for the byte of a pair.
 fn digit_value(b: u8) -> u8
     ensures { λ r. ⌜ r ≡ digitValue b ⌝ }
     ensures { λ r. ⌜ r ≤ 15 ⌝ }
 {
-    if 48 <= b && b <= 57 {
+    if is_among(48, 57, b) {
         return b - 48;
     }
-    if 65 <= b && b <= 70 {
+    if is_among(65, 70, b) {
         return b - 55;
     }
-    if 97 <= b && b <= 102 {
+    if is_among(97, 102, b) {
         return b - 87;
     }
     0
@@ -37,6 +51,19 @@ fn pair_value(a: u8, b: u8) -> u8
     ensures { λ r. ⌜ r ≡ 16 * digitValue a + digitValue b ⌝ }
 {
     16 * digit_value(a) + digit_value(b)
+}
+
+// Two characters more are digits too.
+fn still_digits(so_far: bool, a: u8, b: u8) -> bool
+    ensures { λ r. ⌜ r ≡ ((«so_far» && isDigit a) && isDigit b) ⌝ }
+{
+    if !so_far {
+        return false;
+    }
+    if !is_digit(a) {
+        return false;
+    }
+    is_digit(b)
 }
 
 // The bytes of a text, in either letter case.
@@ -58,9 +85,7 @@ pub fn digit_pairs(text: &[u8]) -> Pairs
         let a = text[2 * i];
         let b = text[2 * i + 1];
         bytes[i] = pair_value(a, b);
-        if !(is_digit(a) && is_digit(b)) {
-            are_pairs = false;
-        }
+        are_pairs = still_digits(are_pairs, a, b);
         i += 1;
     }
     Pairs {
