@@ -1,0 +1,4 @@
+pub mod Tallies
+pub mod Text
+pub mod Decimal
+pub mod Order
