@@ -2,3 +2,4 @@ pub mod Tallies
 pub mod Text
 pub mod Decimal
 pub mod Order
+pub mod Values
