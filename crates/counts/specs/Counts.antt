@@ -23,7 +23,7 @@ counted tallies n = set tallies n (min (getD tallies n 0 + 1) most)
 -- the decimal digits of n, as few as hold it, of at most k
 unfoldable pub decimalIn : ℕ → ℕ → List ℕ
 decimalIn zero n = []
-decimalIn (suc k) n = cond (ltb n 10) [] (decimalIn k (n / 10)) ++ (48 + n % 10 ∷ [])
+decimalIn (suc k) n = cond (ltb n 10) [] (decimalIn k (n / 10)) ++ ((48 + n % 10) ∷ [])
 
 -- a count has at most twenty
 abbrev pub decimal : ℕ → List ℕ

@@ -1,6 +1,8 @@
 // How often each number was given, and the closing lines that say so.
 ghost use mathlib.Core.Path.{_≡_};
-ghost use mathlib.Core.List.{List};
+ghost use mathlib.Core.List.{List, [], _∷_, _++_};
+ghost use mathlib.Core.Bool.{cond};
+ghost use lib.Dec.{ltb};
 ghost use Prim.Native.Nat.{ℕ, _≤_, _<_, _+_};
 ghost use lib.ListN.{length, getD, replicate};
 ghost use Rattle.counts.specs.Counts.{counted, countLine, Closes, closingText};
@@ -30,9 +32,58 @@ pub fn count(tallies: [u64; 12], n: u8) -> [u64; 12]
     t
 }
 
+// One more byte of text.
+fn with_byte(c: Closing, b: u8) -> Closing
+    requires { ⌜ c .len < 275 ⌝ }
+    ensures { λ r. ⌜ ((l : List ℕ) → c ≡ closingText l → r ≡ closingText (l ++ (b ∷ []))) ⌝ }
+    ensures { λ r. ⌜ r .len ≡ c .len + 1 ⌝ }
+{
+    let mut bytes = c.bytes;
+    let len = c.len;
+    bytes[len] = b;
+    Closing {
+        bytes: bytes,
+        len: len + 1,
+    }
+}
+
+// The bytes of part after the text.
+fn with_text(c: Closing, part: &[u8]) -> Closing
+    requires { ⌜ c .len + length (now part) ≤ 275 ⌝ }
+    ensures { λ r. ⌜ ((l : List ℕ) → c ≡ closingText l → r ≡ closingText (l ++ now (part .entry))) ⌝ }
+    ensures { λ r. ⌜ r .len ≡ c .len + length (now (part .entry)) ⌝ }
+{
+    let mut text = c;
+    let mut i: usize = 0;
+    while i < part.len() {
+        let more = with_byte(text, part[i]);
+        text = more;
+        i += 1;
+    }
+    text
+}
+
+// The line of n after the text, where n was seen.
+fn number_closed(c: Closing, n: u8, count: u64) -> Closing
+    requires { ⌜ c .len ≤ 250 ⌝ }
+    requires { ⌜ n < 100 ⌝ }
+    ensures { λ r. ⌜ ((l : List ℕ) → c ≡ closingText l → r ≡ closingText (l ++ cond (ltb 0 count) (countLine n count) [])) ⌝ }
+    ensures { λ r. ⌜ r .len ≤ c .len + 25 ⌝ }
+{
+    if count == 0 {
+        return c;
+    }
+    let start = [78u8, 48 + n / 10, 48 + n % 10, 32];
+    let mut digits = [0u8; 20];
+    let k = io::decimal(count, &mut digits);
+    let named = with_text(c, &start);
+    let counted = with_text(named, &digits[..k]);
+    with_byte(counted, 10)
+}
+
 // The closing lines.
-pub fn closing(tallies: [u64; 12]) -> Closing
-    ensures { λ r. ⌜ (text : List ℕ) × (r ≡ closingText text) × Closes (λ n. getD tallies n 0) text ⌝ }
+pub fn closing_lines(tallies: [u64; 12]) -> Closing
+    ensures { λ r. ⌜ ((text : List ℕ) × (r ≡ closingText text) × Closes (λ n. getD tallies n 0) text) ⌝ }
 {
     let mut c = Closing {
         bytes: [0u8; 275],
