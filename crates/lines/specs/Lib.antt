@@ -1,4 +1,4 @@
 pub mod Replies
 pub mod Output
 pub mod Replay
-pub mod Closing
+pub mod Parts

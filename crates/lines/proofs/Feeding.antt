@@ -1,0 +1,157 @@
+-- What `feed` takes of a piece: the characters before the first newline are pushed, and the newline ends the line.
+use mathlib.Core.Path.{_≡_, refl, sym, ap, _∙_}
+use mathlib.Core.Bool.{Bool, true, false, cond}
+use mathlib.Core.List.{List, [], _∷_, _++_, append-nil}
+use mathlib.Core.Logic.{⊎-elim, _⊎_, inl, inr}
+use Prim.Native.Nat.{ℕ, suc, _+_, _≤_, _<_}
+use native.Mathlib.Numerals.{add-one}
+use native.Mathlib.Omega.{arith}
+use lib.Dec.{eqb}
+use lib.ListN.{length, take}
+use Rattle.lines.specs.Parts.{newlineAt}
+use Rattle.lines.specs.Replay.{pushed, pushedAll, textOf, saidLine, nextLine, withByte, after, said, toNewline, endedOf, fedOf}
+use Rattle.lines.specs.declared.Line.{Line}
+use Rattle.lines.specs.declared.Replay.{Replay}
+use Rattle.lines.specs.declared.Text.{Text}
+use Rattle.lines.specs.declared.Fed.{Fed}
+
+abbrev pub withLine : Replay → Line → Replay
+withLine r l = record { state = r .state; line = l; tallies = r .tallies }
+
+-- r with the characters before the first newline
+abbrev pub longer : Replay → List ℕ → Replay
+longer r xs = withLine r (pushedAll (r .line) (take (newlineAt xs) xs))
+
+at-most : (t : Bool) (n m : ℕ) → n ≤ m → cond t 0 (suc n) ≤ suc m
+at-most true n m h = omega arith
+at-most false n m h = omega arith
+
+pub newline-inside : (xs : List ℕ) → newlineAt xs ≤ length xs
+unfolding newlineAt
+newline-inside [] = omega arith
+newline-inside (b ∷ xs) = at-most (eqb b 10) (newlineAt xs) (length xs) (newline-inside xs)
+
+-- ---- the first byte
+
+later : (b : ℕ) (xs : List ℕ) → eqb b 10 ≡ false → newlineAt (b ∷ xs) ≡ suc (newlineAt xs)
+unfolding newlineAt
+later b xs h = rw h
+
+here : (b : ℕ) (xs : List ℕ) → eqb b 10 ≡ true → newlineAt (b ∷ xs) ≡ 0
+unfolding newlineAt
+here b xs h = rw h
+
+byte-ends : (r : Replay) (b : ℕ) → eqb b 10 ≡ true → withByte r b ≡ nextLine r
+unfolding withByte
+byte-ends r b h = rw h
+
+byte-pushed : (r : Replay) (b : ℕ) → eqb b 10 ≡ false → withByte r b ≡ withLine r (pushed (r .line) b)
+unfolding withByte
+byte-pushed r b h = rw h
+
+piece-here : (b : ℕ) (xs : List ℕ) → eqb b 10 ≡ true → toNewline (b ∷ xs) ≡ b ∷ []
+unfolding toNewline
+piece-here b xs h = rw h
+
+piece-later : (b : ℕ) (xs : List ℕ) → eqb b 10 ≡ false → toNewline (b ∷ xs) ≡ b ∷ toNewline xs
+unfolding toNewline
+piece-later b xs h = rw h
+
+-- ---- a piece with a newline
+
+record Ends (r : Replay) (xs : List ℕ) : Type 0 where
+  carried : after r (toNewline xs) ≡ nextLine (longer r xs)
+  told : said r (toNewline xs) ≡ saidLine (longer r xs)
+  used : length (toNewline xs) ≡ newlineAt xs + 1
+
+ends-here : (r : Replay) (b : ℕ) (xs : List ℕ) → eqb b 10 ≡ true → Ends r (b ∷ xs)
+unfolding after said pushedAll
+ends-here r b xs h =
+    let n = piece-here b xs h in
+    let p : r ≡ longer r (b ∷ xs) = ap (λ (k : ℕ). withLine r (pushedAll (r .line) (take k (b ∷ xs)))) (sym (here b xs h)) in
+    record {
+      carried = ap (after r) n ∙ byte-ends r b h ∙ ap nextLine p;
+      told = ap (said r) n ∙ rw h (append-nil (saidLine r)) ∙ ap saidLine p;
+      used = ap length n ∙ ap (λ (k : ℕ). k + 1) (sym (here b xs h));
+    }
+
+-- a character that is not a newline goes to the line
+longer-later : (r : Replay) (b : ℕ) (xs : List ℕ) → eqb b 10 ≡ false → longer (withLine r (pushed (r .line) b)) xs ≡ longer r (b ∷ xs)
+unfolding pushedAll
+longer-later r b xs h = ap (λ (k : ℕ). withLine r (pushedAll (r .line) (take k (b ∷ xs)))) (sym (later b xs h))
+
+ends-later : (r : Replay) (b : ℕ) (xs : List ℕ) → eqb b 10 ≡ false → Ends (withLine r (pushed (r .line) b)) xs → Ends r (b ∷ xs)
+unfolding after said
+ends-later r b xs h e =
+    let n = piece-later b xs h in
+    let p = byte-pushed r b h in
+    record {
+      carried = ap (after r) n ∙ ap (λ (q : Replay). after q (toNewline xs)) p ∙ e .carried ∙ ap nextLine (longer-later r b xs h);
+      told = ap (said r) n ∙ rw h (ap (λ (q : Replay). said q (toNewline xs)) p) ∙ e .told ∙ ap saidLine (longer-later r b xs h);
+      used = ap length n ∙ ap suc (e .used) ∙ omega (arith, later b xs h);
+    }
+
+-- ---- a piece without
+
+record Goes (r : Replay) (xs : List ℕ) : Type 0 where
+  carried : after r (toNewline xs) ≡ longer r xs
+  told : said r (toNewline xs) ≡ []
+  used : length (toNewline xs) ≡ newlineAt xs
+
+goes-none : (r : Replay) → Goes r []
+unfolding after said toNewline newlineAt pushedAll
+goes-none r = record { carried = refl; told = refl; used = refl }
+
+goes-on : (r : Replay) (b : ℕ) (xs : List ℕ) → eqb b 10 ≡ false → Goes (withLine r (pushed (r .line) b)) xs → Goes r (b ∷ xs)
+unfolding after said
+goes-on r b xs h e =
+    let n = piece-later b xs h in
+    let p = byte-pushed r b h in
+    record {
+      carried = ap (after r) n ∙ ap (λ (q : Replay). after q (toNewline xs)) p ∙ e .carried ∙ longer-later r b xs h;
+      told = ap (said r) n ∙ rw h (ap (λ (q : Replay). said q (toNewline xs)) p) ∙ e .told;
+      used = ap length n ∙ ap suc (e .used) ∙ sym (later b xs h);
+    }
+
+-- ---- both, by the first byte
+
+either : (t : Bool) → (t ≡ true) ⊎ (t ≡ false)
+either true = inl refl
+either false = inr refl
+
+nowhere : newlineAt [] ≡ 0
+unfolding newlineAt
+nowhere = refl
+
+ends : (r : Replay) (xs : List ℕ) → newlineAt xs < length xs → Ends r xs
+ends r [] h = absurd (let z : ⊥ = omega (arith, nowhere) in z)
+ends r (b ∷ xs) h =
+    ⊎-elim (λ (e : eqb b 10 ≡ true). ends-here r b xs e)
+    (λ (e : eqb b 10 ≡ false). ends-later r b xs e (ends (withLine r (pushed (r .line) b)) xs (omega (arith, later b xs e)))) (either (eqb b 10))
+
+goes : (r : Replay) (xs : List ℕ) → length xs ≤ newlineAt xs → Goes r xs
+goes r [] h = goes-none r
+goes r (b ∷ xs) h =
+    ⊎-elim (λ (e : eqb b 10 ≡ true). absurd (let z : ⊥ = omega (arith, here b xs e) in z))
+    (λ (e : eqb b 10 ≡ false). goes-on r b xs e (goes (withLine r (pushed (r .line) b)) xs (omega (arith, later b xs e)))) (either (eqb b 10))
+
+-- ---- what `feed` answers
+
+pub fed-ended : (r : Replay) (xs : List ℕ) (m : Replay) (f : Fed) → newlineAt xs < length xs → m ≡ longer r xs → f ≡ endedOf m
+  → record { replay = f .replay; text = f .text; used = newlineAt xs + 1 } ≡ fedOf r xs
+unfolding fedOf endedOf
+fed-ended r xs m f h e g =
+    let w = ends r xs h in
+    let k = g ∙ (λ i. endedOf (e i)) in
+    λ i. record {
+      replay = (ap (λ (d : Fed). d .replay) k ∙ sym (w .carried)) i;
+      text = (ap (λ (d : Fed). d .text) k ∙ ap textOf (sym (w .told))) i;
+      used = sym (w .used) i;
+    }
+
+pub fed-going : (r : Replay) (xs : List ℕ) (m : Replay) (t : Text) → length xs ≤ newlineAt xs → m ≡ longer r xs → t ≡ textOf []
+  → record { replay = m; text = t; used = newlineAt xs } ≡ fedOf r xs
+unfolding fedOf
+fed-going r xs m t h e g =
+    let w = goes r xs h in
+    λ i. record { replay = (e ∙ sym (w .carried)) i; text = (g ∙ ap textOf (sym (w .told))) i; used = sym (w .used) i }

@@ -1,0 +1,28 @@
+-- What the private functions answer.
+use mathlib.Core.Bool.{Bool, cond}
+use mathlib.Core.List.{List, [], _∷_}
+use Prim.Native.Nat.{ℕ, suc}
+use lib.Dec.{eqb}
+use lib.IntN.{ℤ}
+use Rattle.digits.specs.Digits.{sampleLine}
+use Rattle.state.specs.declared.State.{State}
+use Rattle.lines.specs.Replies.{refusalLine, numberFor, stateFor, textFor}
+use Rattle.lines.specs.Replay.{textOf}
+use Rattle.lines.specs.declared.Reply.{Reply}
+
+-- the text of a number, or of the samples where it is 0
+abbrev pub answerLine : ℕ → List ℤ → List ℕ
+answerLine n samples = cond (eqb n 0) (sampleLine samples) (refusalLine n)
+
+-- the answer to a line in its three parts
+unfoldable pub replyOf : Bool → List ℕ → State → Reply
+replyOf isRecord bytes s = record {
+  state = stateFor isRecord bytes s;
+  number = numberFor isRecord bytes s;
+  text = textOf (textFor isRecord bytes s);
+}
+
+-- the place of the first newline, or the length
+unfoldable pub newlineAt : List ℕ → ℕ
+newlineAt [] = 0
+newlineAt (b ∷ xs) = cond (eqb b 10) 0 (suc (newlineAt xs))

@@ -1,0 +1,106 @@
+-- What is carried from one piece of the input to the next, and what each piece adds to it and to the output: the code's structs.
+use mathlib.Core.Bool.{Bool, true, false, cond, not, _&&_, _||_}
+use mathlib.Core.List.{List, [], _∷_, _++_}
+use Prim.Native.Nat.{ℕ, _+_, _-_}
+use lib.Dec.{eqb, ltb}
+use lib.ListN.{length, take, set, replicate}
+use Rattle.tables.specs.Constants.{lineMax}
+use Rattle.digits.specs.Digits.{arePairs, bytesOf}
+use Rattle.counts.specs.Counts.{counted}
+use Rattle.state.specs.State.{freshState}
+use Rattle.lines.specs.Replies.{numberFor, stateFor, textFor}
+use Rattle.lines.specs.declared.Line.{Line}
+use Rattle.lines.specs.declared.Replay.{Replay}
+use Rattle.lines.specs.declared.Text.{Text}
+use Rattle.lines.specs.declared.Fed.{Fed}
+
+-- ---- a line that has not ended
+
+-- one character more: it is kept where there is room for it
+unfoldable pub pushed : Line → ℕ → Line
+pushed l b =
+    cond (ltb (l .len) lineMax)
+    (record { text = set (l .text) (l .len) b; len = l .len + 1; over = l .over })
+    (record { text = l .text; len = l .len; over = true })
+
+unfoldable pub pushedAll : Line → List ℕ → Line
+pushedAll l [] = l
+pushedAll l (b ∷ xs) = pushedAll (pushed l b) xs
+
+-- none is left of it
+abbrev pub emptied : Line → Line
+emptied l = record { text = l .text; len = 0; over = false }
+
+-- its characters
+abbrev pub characters : Line → List ℕ
+characters l = take (l .len) (l .text)
+
+abbrev pub isRecord : Line → Bool
+isRecord l = not (l .over) && arePairs (characters l)
+
+-- there is something of it
+abbrev pub isBegun : Line → Bool
+isBegun l = ltb 0 (l .len) || l .over
+
+-- ---- from piece to piece
+
+-- before the first
+unfoldable pub freshReplay : Replay
+freshReplay = record {
+  state = freshState true;
+  line = record { text = replicate lineMax 0; len = 0; over = false };
+  tallies = replicate 12 0;
+}
+
+-- The end of a line: what is said of it, and what is carried on.
+module _ (r : Replay) where
+  abbrev pub saidNumber : ℕ
+  saidNumber = numberFor (isRecord (r .line)) (bytesOf (characters (r .line))) (r .state)
+
+  unfoldable pub saidLine : List ℕ
+  saidLine = textFor (isRecord (r .line)) (bytesOf (characters (r .line))) (r .state)
+
+  unfoldable pub nextLine : Replay
+  nextLine = record {
+    state = stateFor (isRecord (r .line)) (bytesOf (characters (r .line))) (r .state);
+    line = emptied (r .line);
+    tallies = counted (r .tallies) saidNumber;
+  }
+
+-- one byte
+unfoldable pub withByte : Replay → ℕ → Replay
+withByte r b = cond (eqb b 10) (nextLine r) (record { state = r .state; line = pushed (r .line) b; tallies = r .tallies })
+
+-- the bytes xs: what is carried after them, and what is said to them
+unfoldable pub after : Replay → List ℕ → Replay
+after r [] = r
+after r (b ∷ xs) = after (withByte r b) xs
+
+unfoldable pub said : Replay → List ℕ → List ℕ
+said r [] = []
+said r (b ∷ xs) = cond (eqb b 10) (saidLine r) [] ++ said (withByte r b) xs
+
+-- ---- what the functions answer
+
+-- text at the start of 961 bytes, which are zeros after it
+abbrev pub textOf : List ℕ → Text
+textOf l = record { bytes = l ++ replicate (961 - length l) 0; len = length l }
+
+-- a piece of the input to its first newline, with it
+unfoldable pub toNewline : List ℕ → List ℕ
+toNewline [] = []
+toNewline (b ∷ xs) = b ∷ cond (eqb b 10) [] (toNewline xs)
+
+-- the end of a line
+unfoldable pub endedOf : Replay → Fed
+endedOf r = record { replay = nextLine r; text = textOf (saidLine r); used = 0 }
+
+-- `feed`: a call takes the end of one line at most
+unfoldable pub fedOf : Replay → List ℕ → Fed
+fedOf r xs =
+    let piece = toNewline xs in
+    record { replay = after r piece; text = textOf (said r piece); used = length piece }
+
+-- `finish`: the line that no newline ended, if there is anything of it
+unfoldable pub finished : Replay → Fed
+finished r = cond (isBegun (r .line)) (endedOf r) (record { replay = r; text = textOf []; used = 0 })

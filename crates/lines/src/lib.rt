@@ -1,0 +1,280 @@
+// Lines of hexadecimal text to lines of samples, piece by piece: the program `frames` but for its calls to read and write.
+ghost use mathlib.Core.Path.{_≡_};
+ghost use mathlib.Core.Bool.{true, false};
+ghost use mathlib.Core.List.{[]};
+ghost use Prim.Native.Nat.{_≤_, _<_};
+ghost use lib.ListN.{length, take};
+ghost use Rattle.digits.specs.Digits.{pairsOf, bytesOf, sampleLine};
+ghost use Rattle.lines.specs.Replies.{refusalLine};
+ghost use Rattle.lines.specs.Replay.{pushedAll, characters, isRecord, freshReplay, textOf, endedOf, fedOf, finished};
+ghost use Rattle.lines.specs.Parts.{answerLine, replyOf, newlineAt};
+use digits::Pairs;
+use state::State;
+
+// A line that has not ended: `len` characters stand in `text`. `over` says that there were more.
+pub struct Line {
+    pub text: [u8; 1098],
+    pub len: usize,
+    pub over: bool,
+}
+
+// What is carried from one piece of the input to the next. `tallies` counts lines by number, those with samples at 0.
+pub struct Replay {
+    pub state: State,
+    pub line: Line,
+    pub tallies: [u64; 12],
+}
+
+// The answer to a line, with its newline: `len` bytes.
+pub struct Text {
+    pub bytes: [u8; 961],
+    pub len: usize,
+}
+
+// What a call took of a piece, and what is to be written.
+pub struct Fed {
+    pub replay: Replay,
+    pub text: Text,
+    pub used: usize,
+}
+
+// The answer to one line.
+struct Reply {
+    state: State,
+    number: u8,
+    text: Text,
+}
+
+fn no_text() -> Text
+    ensures { λ r. ⌜ r ≡ textOf [] ⌝ }
+{
+    Text {
+        bytes: [0u8; 961],
+        len: 0,
+    }
+}
+
+fn refusal_text(n: u8) -> Text
+    ensures { λ r. ⌜ r ≡ textOf (refusalLine n) ⌝ }
+{
+    let mut bytes = [0u8; 961];
+    bytes[0] = 82;
+    bytes[1] = 48 + n / 10;
+    bytes[2] = 48 + n % 10;
+    bytes[3] = 10;
+    Text {
+        bytes: bytes,
+        len: 4,
+    }
+}
+
+fn sample_text(samples: [i16; 240]) -> Text
+    ensures { λ r. ⌜ r ≡ textOf (sampleLine samples) ⌝ }
+{
+    let bytes = digits::sample_line(samples);
+    Text {
+        bytes: bytes,
+        len: 961,
+    }
+}
+
+// The place of the first newline, or the length.
+fn newline(input: &[u8]) -> usize
+    ensures { λ r. ⌜ r ≡ newlineAt (now (input .entry)) ⌝ }
+{
+    let mut i: usize = 0;
+    while i < input.len() {
+        if input[i] == 10 {
+            return i;
+        }
+        i += 1;
+    }
+    i
+}
+
+// Characters more of a line.
+fn append(line: Line, part: &[u8]) -> Line
+    ensures { λ r. ⌜ r ≡ pushedAll line (now (part .entry)) ⌝ }
+{
+    let mut text = line.text;
+    let mut len = line.len;
+    let mut over = line.over;
+    let mut i: usize = 0;
+    while i < part.len() {
+        if len < tables::LINE_MAX {
+            text[len] = part[i];
+            len += 1;
+        } else {
+            over = true;
+        }
+        i += 1;
+    }
+    Line {
+        text: text,
+        len: len,
+        over: over,
+    }
+}
+
+// The characters of a line as digit pairs.
+fn line_pairs(text: &[u8], len: usize) -> Pairs
+    ensures { λ r. ⌜ r ≡ pairsOf (take len (now (text .entry))) ⌝ }
+{
+    if len < text.len() {
+        return digits::digit_pairs(&text[..len]);
+    }
+    digits::digit_pairs(text)
+}
+
+// The text of a number, or of the samples where it is 0.
+fn answer_text(n: u8, samples: [i16; 240]) -> Text
+    ensures { λ r. ⌜ r ≡ textOf (answerLine n samples) ⌝ }
+{
+    if n == 0 {
+        return sample_text(samples);
+    }
+    refusal_text(n)
+}
+
+// The answer to a record.
+fn decoded(given: State, bytes: &[u8]) -> Reply
+    ensures { λ r. ⌜ r ≡ replyOf true (now (bytes .entry)) given ⌝ }
+{
+    let mut samples = [0i16; 240];
+    let a = decoder::decode(given, bytes, &mut samples);
+    let v = a.verdict;
+    let state = a.state;
+    let n = numbers::verdict_number(v);
+    let text = answer_text(n, samples);
+    Reply {
+        state: state,
+        number: n,
+        text: text,
+    }
+}
+
+// That to the first `count` bytes as a record.
+fn record_reply(given: State, bytes: &[u8], count: usize) -> Reply
+    ensures { λ r. ⌜ r ≡ replyOf true (take count (now (bytes .entry))) given ⌝ }
+{
+    if count < bytes.len() {
+        return decoded(given, &bytes[..count]);
+    }
+    decoded(given, bytes)
+}
+
+// That to a line that is no record: number 11, which changes no state.
+fn no_record(given: State) -> Reply
+    ensures { λ r. ⌜ r ≡ replyOf false [] given ⌝ }
+{
+    let text = refusal_text(11);
+    Reply {
+        state: given,
+        number: 11,
+        text: text,
+    }
+}
+
+fn line_reply(given: State, line: Line) -> Reply
+    ensures { λ r. ⌜ r ≡ replyOf (isRecord line) (bytesOf (characters line)) given ⌝ }
+{
+    let text = line.text;
+    let p = line_pairs(&text, line.len);
+    if line.over {
+        return no_record(given);
+    }
+    if !p.are_pairs {
+        return no_record(given);
+    }
+    let bytes = p.bytes;
+    record_reply(given, &bytes, p.count)
+}
+
+fn end_line(given: Replay) -> Fed
+    ensures { λ r. ⌜ r ≡ endedOf given ⌝ }
+{
+    let line = given.line;
+    let text = line.text;
+    let state = given.state;
+    let tallies = given.tallies;
+    let a = line_reply(state, line);
+    let next = a.state;
+    let answer = a.text;
+    Fed {
+        replay: Replay {
+            state: next,
+            line: Line {
+                text: text,
+                len: 0,
+                over: false,
+            },
+            tallies: counts::count(tallies, a.number),
+        },
+        text: answer,
+        used: 0,
+    }
+}
+
+// Before the first piece: one fresh state, with postfilter.
+pub fn start() -> Replay
+    ensures { λ r. ⌜ r ≡ freshReplay ⌝ }
+{
+    Replay {
+        state: state::fresh(true),
+        line: Line {
+            text: [0u8; 1098],
+            len: 0,
+            over: false,
+        },
+        tallies: counts::no_tallies(),
+    }
+}
+
+// What a piece of the input adds, to the end of a line: the rest of the piece is for the next call.
+pub fn feed(given: Replay, input: &[u8]) -> Fed
+    ensures { λ r. ⌜ r ≡ fedOf given (now (input .entry)) ⌝ }
+{
+    let end = newline(input);
+    let line = given.line;
+    let longer = append(line, &input[..end]);
+    let state = given.state;
+    let tallies = given.tallies;
+    let more = Replay {
+        state: state,
+        line: longer,
+        tallies: tallies,
+    };
+    if end < input.len() {
+        let f = end_line(more);
+        let replay = f.replay;
+        let text = f.text;
+        return Fed {
+            replay: replay,
+            text: text,
+            used: end + 1,
+        };
+    }
+    Fed {
+        replay: more,
+        text: no_text(),
+        used: end,
+    }
+}
+
+// The end of the input: a line that no newline ended is answered too.
+pub fn finish(given: Replay) -> Fed
+    ensures { λ r. ⌜ r ≡ finished given ⌝ }
+{
+    let line = given.line;
+    if line.len > 0 {
+        return end_line(given);
+    }
+    if line.over {
+        return end_line(given);
+    }
+    Fed {
+        replay: given,
+        text: no_text(),
+        used: 0,
+    }
+}
