@@ -1,15 +1,18 @@
 //! Pieces of work on every processor.
 
+use std::panic::{AssertUnwindSafe, catch_unwind};
 use std::sync::atomic::{AtomicBool, AtomicU64, Ordering};
 use std::thread;
 
 /// Does pieces 0, 1, 2 .. until one answers false or fails; the first failure. A piece takes its seed from its number, so
-/// that what is compared does not depend on the processors.
+/// that what is compared does not depend on the processors. The Rust stops where it overflows; then the piece is named.
 pub fn each(work: impl Fn(u64) -> Result<bool, String> + Sync) -> Result<(), String> {
     let (next, stopped) = (AtomicU64::new(0), AtomicBool::new(false));
     let worker = || {
         while !stopped.load(Ordering::Relaxed) {
-            let done = work(next.fetch_add(1, Ordering::Relaxed));
+            let piece = next.fetch_add(1, Ordering::Relaxed);
+            let done = catch_unwind(AssertUnwindSafe(|| work(piece)));
+            let done = done.unwrap_or_else(|_| Err(format!("piece {piece} stopped by itself")));
             if done != Ok(true) {
                 stopped.store(done.is_err(), Ordering::Relaxed);
                 return done.map(|_| ());
