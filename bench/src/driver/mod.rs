@@ -1,6 +1,11 @@
-//! Child module of the unchanged qdec.rs, so that its private functions can be timed.
+//! Child module of the unchanged qdec.rs, so that its private functions can be timed, with the oracle's frame and state.
 
+#[path = "../../../tests/oracle/src/driver/frame.rs"]
+pub mod frame;
 mod layers;
+#[allow(dead_code)]
+#[path = "../../../tests/oracle/src/driver/state.rs"]
+pub mod state;
 
 use std::cell::RefCell;
 use std::hint::black_box;

@@ -19,6 +19,7 @@ unsafe extern "C" {
     ) -> u8;
 }
 
+#[derive(Clone)]
 pub struct Ours {
     prev_lsp: [i16; 10],
     exc_hist: [i32; 146],
@@ -71,11 +72,10 @@ impl Ours {
         list
     }
 
-    /// The number, 0 where the record was accepted, and what the samples then hold that were `mark` before.
-    pub fn decode(&mut self, record: &[u8], mark: i16) -> (u8, [i16; 240]) {
-        let mut samples = [mark; 240];
+    /// The number, 0 where the record was accepted.
+    pub fn decode(&mut self, record: &[u8], samples: &mut [i16]) -> u8 {
         // SAFETY: both slices are as long as is said, and nothing else refers to the samples.
-        let number = unsafe {
+        unsafe {
             ours_decode(
                 &mut self.prev_lsp,
                 &mut self.exc_hist,
@@ -92,7 +92,6 @@ impl Ours {
                 samples.as_mut_ptr(),
                 samples.len(),
             )
-        };
-        (number, samples)
+        }
     }
 }

@@ -1,5 +1,6 @@
 //! Random records: speech-like ones, loud ones, every field at its ends, and faulty ones.
 
+use crate::faults;
 use crate::random::Random;
 
 #[derive(Clone, Copy, PartialEq)]
@@ -32,7 +33,11 @@ pub fn record(random: &mut Random, class: Class) -> Vec<u8> {
         Class::Erased => vec![0],
         Class::High => received(random, true),
         Class::Low => received(random, false),
-        Class::Faulty => faulty(random),
+        Class::Faulty if random.below(2) == 0 => faulty(random),
+        Class::Faulty => {
+            let number = 3 + random.below(8) as u8;
+            faults::refused(random, number)
+        }
     }
 }
 

@@ -1,4 +1,4 @@
-//! Arbitrary states: every field free within the bounds of number 2.
+//! Arbitrary states: every field free within the bounds of number 2, and such that leave them.
 
 use crate::random::Random;
 
@@ -23,6 +23,25 @@ pub fn arbitrary(random: &mut Random) -> Vec<i128> {
     let run = random.mostly_below(6, &[0, u32::MAX - 1, u32::MAX]);
     list.extend([i64::from(run), i64::from(random.below(2))]);
     list.into_iter().map(i128::from).collect()
+}
+
+/// The fields that number 2 tests, by their places, and their ends.
+const BOUNDS: [(usize, usize, i128, i128); 7] = [
+    (10, 146, -32_768, 32_767),
+    (156, 10, -32_768, 32_767),
+    (188, 1, 0, 1_048_576),
+    (189, 1, 17, 147),
+    (190, 1, 18, 145),
+    (191, 1, 0, 32_767),
+    (192, 1, 0, 13_246),
+];
+
+/// Puts a number of one of those fields out of its bounds, mostly just.
+pub fn leave_bounds(random: &mut Random, list: &mut [i128]) {
+    let (from, count, low, high) = BOUNDS[random.below(7) as usize];
+    let at = from + random.below(count as u32) as usize;
+    let far = [i128::from(i32::MIN), i128::from(i32::MAX)];
+    list[at] = [low - 1, high + 1, low - 1, high + 1, far[0], far[1]][random.below(6) as usize];
 }
 
 /// Appends `count` values of one loudness, which repeat where there is a period.

@@ -1,0 +1,35 @@
+//! The second decoder with its state, as C sees it.
+
+unsafe extern "C" {
+    fn second_decode(state: &mut [i64; 315], record: *const u8, length: usize, samples: *mut i64, count: usize) -> i32;
+    fn second_fresh(state: &mut [i64; 315], postfilter: i32);
+}
+
+pub struct Second([i64; 315]);
+
+impl Second {
+    /// From the 315 numbers of the oracle's state.rs.
+    pub fn from_numbers(list: &[i128]) -> Self {
+        Self(std::array::from_fn(|i| list[i] as i64))
+    }
+
+    pub fn fresh(postfilter: bool) -> Self {
+        let mut state = [0; 315];
+        // SAFETY: it writes the 315 numbers and no more.
+        unsafe { second_fresh(&mut state, i32::from(postfilter)) };
+        Self(state)
+    }
+
+    pub fn to_numbers(&self) -> Vec<i128> {
+        self.0.map(i128::from).to_vec()
+    }
+
+    /// The number, 0 where the record was accepted.
+    pub fn decode(&mut self, record: &[u8], samples: &mut [i64]) -> u8 {
+        // SAFETY: both slices are as long as is said, and nothing else refers to the samples.
+        let number = unsafe {
+            second_decode(&mut self.0, record.as_ptr(), record.len(), samples.as_mut_ptr(), samples.len())
+        };
+        u8::try_from(number).expect("a number of 0 to 10")
+    }
+}
