@@ -45,7 +45,7 @@ two-more text i =
     rw e (ap (λ (k : ℕ). (areDigits text (2 * i) && isDigit (getD text (2 * i) 0)) && isDigit (getD text k 0)) (sym (add-one (2 * i))))
 
 pub reading-next : (text bytes : List ℕ) (are next : Bool) (v i : ℕ) → Reading text bytes are i → i < length text / 2 → v ≡ pairValue text i
-  → next ≡ ((are && isDigit (getD text (2 * i) 0)) && isDigit (getD text (2 * i + 1) 0)) → Reading text (set bytes i v) next (i + 1)
+    → next ≡ ((are && isDigit (getD text (2 * i) 0)) && isDigit (getD text (2 * i + 1) 0)) → Reading text (set bytes i v) next (i + 1)
 reading-next text bytes are next v i r h e n = record {
   short = r .short;
   inside = omega arith;
@@ -65,12 +65,13 @@ all-digits text =
   where
     even : length text % 2 ≡ 0 → 2 * (length text / 2) ≡ length text
     even h = omega arith
+
     by : (p : Bool) {x y : Bool} → (p ≡ true → x ≡ y) → (p && x) ≡ (p && y)
     by true e = e refl
     by false e = refl
 
 pub reading-end : (text bytes : List ℕ) (are : Bool) (i : ℕ) → Reading text bytes are i → length text / 2 ≤ i
-  → record { «are_pairs» = are; bytes = bytes; count = length text / 2 } ≡ pairsOf text
+    → record { «are_pairs» = are; bytes = bytes; count = length text / 2 } ≡ pairsOf text
 unfolding pairsOf
 reading-end text bytes are i r h =
     let e : i ≡ length text / 2 = omega (arith, r .inside) in

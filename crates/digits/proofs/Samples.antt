@@ -37,9 +37,9 @@ turn xs line k m v e n h g =
 
 -- the four digits of a sample whose image is n
 pub written-next : (xs : List ℤ) (line : List ℕ) (i n a b c d : ℕ) → Written xs line i → i < 240 → n ≡ image (entry xs i)
-  → a ≡ glyph (n / 4096 % 16) → b ≡ glyph (n / 256 % 16) → c ≡ glyph (n / 16 % 16) → d ≡ glyph (n % 16)
-  → Written xs (set (set (set (set line (4 * i) a) (4 * i + 1) b) (4 * i + 2) c) (4 * i + 3) d) (i + 1)
-written-next xs line i n a b c d w h e ea eb ec ed = 
+    → a ≡ glyph (n / 4096 % 16) → b ≡ glyph (n / 256 % 16) → c ≡ glyph (n / 16 % 16) → d ≡ glyph (n % 16)
+    → Written xs (set (set (set (set line (4 * i) a) (4 * i + 1) b) (4 * i + 2) c) (4 * i + 3) d) (i + 1)
+written-next xs line i n a b c d w h e ea eb ec ed =
     let z : n ≡ n / 16 ^ (3 - 3) = omega arith in
     let p = turn xs line (4 * i) (4 * i + 1) a (w .digits) refl (omega arith) (ea ∙ digit-is xs i 0 (4 * i) n (omega arith) (omega arith) e) in
     let q = turn xs (set line (4 * i) a) (4 * i + 1) (4 * i + 2) b p (omega arith) (omega arith) (eb ∙ digit-is xs i 1 (4 * i + 1) n (omega arith) (omega arith) e) in

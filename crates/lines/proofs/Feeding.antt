@@ -2,7 +2,8 @@
 use mathlib.Core.Path.{_≡_, refl, sym, ap, _∙_}
 use mathlib.Core.Bool.{Bool, true, false, cond}
 use mathlib.Core.List.{List, [], _∷_, _++_, append-nil}
-use mathlib.Core.Logic.{⊎-elim, _⊎_, inl, inr}
+use mathlib.Core.Logic.{⊎-elim}
+use Rattle.lines.proofs.Newlines.{either}
 use Prim.Native.Nat.{ℕ, suc, _+_, _≤_, _<_}
 use native.Mathlib.Numerals.{add-one}
 use native.Mathlib.Omega.{arith}
@@ -41,11 +42,11 @@ here : (b : ℕ) (xs : List ℕ) → eqb b 10 ≡ true → newlineAt (b ∷ xs) 
 unfolding newlineAt
 here b xs h = rw h
 
-byte-ends : (r : Replay) (b : ℕ) → eqb b 10 ≡ true → withByte r b ≡ nextLine r
+pub byte-ends : (r : Replay) (b : ℕ) → eqb b 10 ≡ true → withByte r b ≡ nextLine r
 unfolding withByte
 byte-ends r b h = rw h
 
-byte-pushed : (r : Replay) (b : ℕ) → eqb b 10 ≡ false → withByte r b ≡ withLine r (pushed (r .line) b)
+pub byte-pushed : (r : Replay) (b : ℕ) → eqb b 10 ≡ false → withByte r b ≡ withLine r (pushed (r .line) b)
 unfolding withByte
 byte-pushed r b h = rw h
 
@@ -115,10 +116,6 @@ goes-on r b xs h e =
 
 -- ---- both, by the first byte
 
-either : (t : Bool) → (t ≡ true) ⊎ (t ≡ false)
-either true = inl refl
-either false = inr refl
-
 nowhere : newlineAt [] ≡ 0
 unfolding newlineAt
 nowhere = refl
@@ -138,7 +135,7 @@ goes r (b ∷ xs) h =
 -- ---- what `feed` answers
 
 pub fed-ended : (r : Replay) (xs : List ℕ) (m : Replay) (f : Fed) → newlineAt xs < length xs → m ≡ longer r xs → f ≡ endedOf m
-  → record { replay = f .replay; text = f .text; used = newlineAt xs + 1 } ≡ fedOf r xs
+    → record { replay = f .replay; text = f .text; used = newlineAt xs + 1 } ≡ fedOf r xs
 unfolding fedOf endedOf
 fed-ended r xs m f h e g =
     let w = ends r xs h in
@@ -150,7 +147,7 @@ fed-ended r xs m f h e g =
     }
 
 pub fed-going : (r : Replay) (xs : List ℕ) (m : Replay) (t : Text) → length xs ≤ newlineAt xs → m ≡ longer r xs → t ≡ textOf []
-  → record { replay = m; text = t; used = newlineAt xs } ≡ fedOf r xs
+    → record { replay = m; text = t; used = newlineAt xs } ≡ fedOf r xs
 unfolding fedOf
 fed-going r xs m t h e g =
     let w = goes r xs h in

@@ -1,3 +1,7 @@
 pub mod Newlines
 pub mod Texts
 pub mod Feeding
+pub mod Cuts
+pub mod Kept
+pub mod Tallied
+pub mod Whole

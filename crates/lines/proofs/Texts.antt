@@ -73,8 +73,8 @@ record-when l h k = rw (h, k)
 -- ---- a record, by what the decoder promises
 
 pub record-reply : (s : State) (bytes : List ℕ) (a : Answer) (n : ℕ) (xs : List ℤ) (t : Text)
-  → a ≡ answerOf s bytes silence → n ≡ firstNumber s bytes silence → xs ≡ samplesOf s bytes silence → t ≡ textOf (answerLine n xs)
-  → record { state = a .state; number = n; text = t } ≡ replyOf true bytes s
+    → a ≡ answerOf s bytes silence → n ≡ firstNumber s bytes silence → xs ≡ samplesOf s bytes silence → t ≡ textOf (answerLine n xs)
+    → record { state = a .state; number = n; text = t } ≡ replyOf true bytes s
 unfolding replyOf numberFor stateFor textFor
 record-reply s bytes a n xs t ea en ex et = λ i. record { state = ea i .state; number = en i; text = (et ∙ (λ k. textOf (answerLine (en k) (ex k)))) i }
 
@@ -91,7 +91,7 @@ pairs-bytes text h = rw (le-leb (length text) 1098 h) (take-at (bytesOf text) (r
 -- ---- the end of a line
 
 pub ended-is : (r : Replay) (a : Reply) (ts : List ℕ) → a ≡ replyOf (isRecord (r .line)) (bytesOf (characters (r .line))) (r .state) → ts ≡ counted (r .tallies) (a .number)
-  → record { replay = record { state = a .state; line = emptied (r .line); tallies = ts }; text = a .text; used = 0 } ≡ endedOf r
+    → record { replay = record { state = a .state; line = emptied (r .line); tallies = ts }; text = a .text; used = 0 } ≡ endedOf r
 unfolding endedOf nextLine saidLine replyOf
 ended-is r a ts e k =
     λ i. record { replay = record { state = e i .state; line = emptied (r .line); tallies = (k ∙ (λ j. counted (r .tallies) (e j .number))) i }; text = e i .text; used = 0 }
@@ -122,6 +122,6 @@ not-begun l h k = rw (le-ltb 0 (l .len) h, k)
 -- ---- before its start
 
 pub fresh-is : (s : State) (ts : List ℕ) → s ≡ freshState true → ts ≡ replicate 12 0
-  → record { state = s; line = record { text = replicate 1098 0; len = 0; over = false }; tallies = ts } ≡ freshReplay
+    → record { state = s; line = record { text = replicate 1098 0; len = 0; over = false }; tallies = ts } ≡ freshReplay
 unfolding freshReplay
 fresh-is s ts e k = λ i. record { state = e i; line = record { text = replicate 1098 0; len = 0; over = false }; tallies = k i }

@@ -2,3 +2,4 @@ pub mod Replies
 pub mod Output
 pub mod Replay
 pub mod Parts
+pub mod Whole

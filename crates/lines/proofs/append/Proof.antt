@@ -43,9 +43,9 @@ loop-again c =
     let now = lineOf (l .loop .text) (l .loop .len) (l .loop .over) in
     let next = lineOf (c .if1 .text) (c .if1 .len) (c .if1 .over) in
     let e : pushed now (getD xs i 0) ≡ next =
-        ⊎-elim (λ w. push-kept (l .loop .text) (l .loop .len) (l .loop .over) (getD xs i 0) (w .0 .taken) ∙ (λ k. lineOf (sym (w .2) k) (sym (w .3) k) (sym (w .4) k)))
-        (λ w. push-over (l .loop .text) (l .loop .len) (l .loop .over) (getD xs i 0) (w .0 .left) ∙ (λ k. lineOf (sym (w .1) k) (sym (w .2) k) (sym (w .3) k)))
-        (c .if1 .came) in
+    ⊎-elim (λ w. push-kept (l .loop .text) (l .loop .len) (l .loop .over) (getD xs i 0) (w .0 .taken) ∙ (λ k. lineOf (sym (w .2) k) (sym (w .3) k) (sym (w .4) k)))
+    (λ w. push-over (l .loop .text) (l .loop .len) (l .loop .over) (getD xs i 0) (w .0 .left) ∙ (λ k. lineOf (sym (w .1) k) (sym (w .2) k) (sym (w .3) k)))
+    (c .if1 .came) in
     (omega arith, l .loop .inv .1 ∙ push-next now xs i (omega arith) ∙ ap (λ (m : Line). pushedAll m (drop (i + 1) xs)) e)
 
 returns : tie.Need-returns Inv-loop μ-loop

@@ -1,0 +1,229 @@
+-- The program's calls give the whole output: the theorem of specs/Whole.antt.
+use mathlib.Core.Path.{_≡_, refl, sym, ap, subst, _∙_}
+use mathlib.Core.Bool.{Bool, true, false, cond}
+use mathlib.Core.List.{List, [], _∷_, _++_, append-assoc, append-nil}
+use mathlib.Core.Logic.{⊎-elim}
+use Prim.Native.Nat.{ℕ, _+_, _≤_, _<_, min}
+use native.Mathlib.Omega.{arith}
+use lib.Dec.{eqb, ltb}
+use lib.ListN.{length, take, getD, replicate, length-replicate, getD-replicate, List·getD-eq-default}
+use borrow.Author.Tests.{lt-ltb, le-ltb}
+use Rattle.integers.specs.Natural.{le-or-lt}
+use Rattle.digits.specs.Digits.{bytesOf}
+use Rattle.counts.specs.Counts.{howMany, most, counted, Closes}
+use Rattle.state.specs.State.{freshState}
+use Rattle.state.specs.declared.State.{State}
+use Rattle.lines.specs.Replies.{isRecordLine, lineNumber, lineState, lineText}
+use Rattle.lines.specs.Output.{linesFrom, linesOf, textFrom, numbersFrom, answersTo, countOf, IsOutput}
+use Rattle.lines.specs.Replay.{pushed, emptied, characters, isRecord, isBegun, textOf, freshReplay, saidNumber, saidLine, nextLine, withByte, after, said, endedOf, finished}
+use Rattle.lines.specs.Parts.{replyOf}
+use Rattle.lines.specs.Whole.{written, piecesText, piecesReplay, joined, lastFed, OutputOfPieces}
+use Rattle.lines.specs.declared.Line.{Line}
+use Rattle.lines.specs.declared.Replay.{Replay}
+use Rattle.lines.specs.declared.Reply.{Reply}
+use Rattle.lines.specs.declared.Text.{Text}
+use Rattle.lines.specs.declared.Fed.{Fed}
+use Rattle.lines.proofs.Newlines.{either}
+use Rattle.lines.proofs.Feeding.{withLine, byte-ends, byte-pushed}
+use Rattle.lines.proofs.Cuts.{nothing-said, nothing-carried, text-back, pieces-text, pieces-replay}
+use Rattle.lines.proofs.Texts.{finish-begun, finish-none}
+use Rattle.lines.proofs.Kept.{Kept, kept-none, kept-pushed, kept-begun, kept-reply}
+use Rattle.lines.proofs.Tallied.{countedAll, tallied}
+
+-- ---- a line's end, where r keeps the characters of the line
+
+module _ (r : Replay) (line : List ℕ) (k : Kept (r .line) line) where
+  same : replyOf (isRecord (r .line)) (bytesOf (characters (r .line))) (r .state) ≡ replyOf (isRecordLine line) (bytesOf line) (r .state)
+  same = kept-reply (r .line) line (r .state) k
+
+  pub number-same : saidNumber r ≡ lineNumber (r .state) line
+  unfolding replyOf
+  number-same = ap (λ (a : Reply). a .number) same
+
+  pub state-same : nextLine r .state ≡ lineState (r .state) line
+  unfolding replyOf nextLine
+  state-same = ap (λ (a : Reply). a .state) same
+
+  pub text-same : saidLine r ≡ lineText (r .state) line
+  unfolding replyOf saidLine
+  text-same = sym (text-back (saidLine r)) ∙ ap (λ (a : Reply). take (a .text .len) (a .text .bytes)) same ∙ text-back (lineText (r .state) line)
+
+-- ---- the definitions, one line or one byte on
+
+lines-none : (line : List ℕ) → length line ≤ 0 → linesFrom line [] ≡ []
+unfolding linesFrom
+lines-none line h = rw (le-ltb 0 (length line) h)
+
+lines-last : (line : List ℕ) → 0 < length line → linesFrom line [] ≡ line ∷ []
+unfolding linesFrom
+lines-last line h = rw (lt-ltb 0 (length line) h)
+
+lines-end : (line : List ℕ) (b : ℕ) (xs : List ℕ) → eqb b 10 ≡ true → linesFrom line (b ∷ xs) ≡ line ∷ linesFrom [] xs
+unfolding linesFrom
+lines-end line b xs h = rw h
+
+lines-char : (line : List ℕ) (b : ℕ) (xs : List ℕ) → eqb b 10 ≡ false → linesFrom line (b ∷ xs) ≡ linesFrom (line ++ (b ∷ [])) xs
+unfolding linesFrom
+lines-char line b xs h = rw h
+
+said-end : (r : Replay) (b : ℕ) (xs : List ℕ) → eqb b 10 ≡ true → said r (b ∷ xs) ≡ saidLine r ++ said (nextLine r) xs
+unfolding said
+said-end r b xs h = rw h (ap (λ (q : Replay). saidLine r ++ said q xs) (byte-ends r b h))
+
+said-char : (r : Replay) (b : ℕ) (xs : List ℕ) → eqb b 10 ≡ false → said r (b ∷ xs) ≡ said (withLine r (pushed (r .line) b)) xs
+unfolding said
+said-char r b xs h = rw h (ap (λ (q : Replay). said q xs) (byte-pushed r b h))
+
+after-end : (r : Replay) (b : ℕ) (xs : List ℕ) → eqb b 10 ≡ true → after r (b ∷ xs) ≡ after (nextLine r) xs
+unfolding after
+after-end r b xs h = ap (λ (q : Replay). after q xs) (byte-ends r b h)
+
+after-char : (r : Replay) (b : ℕ) (xs : List ℕ) → eqb b 10 ≡ false → after r (b ∷ xs) ≡ after (withLine r (pushed (r .line) b)) xs
+unfolding after
+after-char r b xs h = ap (λ (q : Replay). after q xs) (byte-pushed r b h)
+
+-- what is said of lines, and how they are counted
+abbrev saidOf : State → List (List ℕ) → List ℕ
+saidOf s ls = textFrom s ls
+
+abbrev countedOf : List ℕ → State → List (List ℕ) → List ℕ
+countedOf ts s ls = countedAll ts (numbersFrom s ls)
+
+said-cons : (s : State) (l : List ℕ) (ls : List (List ℕ)) → saidOf s (l ∷ ls) ≡ lineText s l ++ saidOf (lineState s l) ls
+unfolding textFrom
+said-cons s l ls = refl
+
+counted-cons : (ts : List ℕ) (s : State) (l : List ℕ) (ls : List (List ℕ)) → countedOf ts s (l ∷ ls) ≡ countedOf (counted ts (lineNumber s l)) (lineState s l) ls
+unfolding countedAll numbersFrom
+counted-cons ts s l ls = refl
+
+none-said : (s : State) → saidOf s [] ≡ []
+unfolding textFrom
+none-said s = refl
+
+none-counted : (ts : List ℕ) (s : State) → countedOf ts s [] ≡ ts
+unfolding countedAll numbersFrom
+none-counted ts s = refl
+
+next-tallies : (r : Replay) → nextLine r .tallies ≡ counted (r .tallies) (saidNumber r)
+unfolding nextLine
+next-tallies r = refl
+
+next-line : (r : Replay) → nextLine r .line ≡ emptied (r .line)
+unfolding nextLine
+next-line r = refl
+
+ended-text : (r : Replay) → written (endedOf r) ≡ saidLine r
+unfolding endedOf
+ended-text r = text-back (saidLine r)
+
+ended-tallies : (r : Replay) → endedOf r .replay .tallies ≡ counted (r .tallies) (saidNumber r)
+unfolding endedOf
+ended-tallies r = next-tallies r
+
+-- ---- the bytes xs after it
+
+record Comes (r : Replay) (line xs : List ℕ) : Type 0 where
+  text : said r xs ++ written (finished (after r xs)) ≡ textFrom (r .state) (linesFrom line xs)
+  tallies : finished (after r xs) .replay .tallies ≡ countedOf (r .tallies) (r .state) (linesFrom line xs)
+
+-- none: the line is answered if there is anything of it
+comes-some : (r : Replay) (line : List ℕ) → Kept (r .line) line → 0 < length line → Comes r line []
+comes-some r line k h =
+    let b : isBegun (r .line) ≡ true = kept-begun (r .line) line k ∙ lt-ltb 0 (length line) h in
+    let f : finished (after r []) ≡ endedOf r = ap finished (nothing-carried r [] (omega arith)) ∙ sym (finish-begun r (endedOf r) b refl) in
+    let s = r .state in
+    record {
+      text =
+          (λ i. nothing-said r [] (omega arith) i ++ written (f i)) ∙ ended-text r ∙ text-same r line k ∙ sym (append-nil (lineText s line))
+          ∙ ap (λ (l : List ℕ). lineText s line ++ l) (sym (none-said (lineState s line))) ∙ sym (said-cons s line []) ∙ ap (saidOf s) (sym (lines-last line h));
+      tallies =
+          ap (λ (d : Fed). d .replay .tallies) f ∙ ended-tallies r ∙ ap (counted (r .tallies)) (number-same r line k)
+          ∙ sym (none-counted (counted (r .tallies) (lineNumber s line)) (lineState s line)) ∙ sym (counted-cons (r .tallies) s line [])
+          ∙ ap (countedOf (r .tallies) s) (sym (lines-last line h));
+    }
+
+comes-none : (r : Replay) (line : List ℕ) → Kept (r .line) line → length line ≤ 0 → Comes r line []
+comes-none r line k h =
+    let b : isBegun (r .line) ≡ false = kept-begun (r .line) line k ∙ le-ltb 0 (length line) h in
+    let f = ap finished (nothing-carried r [] (omega arith)) ∙ sym (finish-none r (textOf []) b refl) in
+    record {
+      text = (λ i. nothing-said r [] (omega arith) i ++ written (f i)) ∙ sym (none-said (r .state)) ∙ ap (saidOf (r .state)) (sym (lines-none line h));
+      tallies = ap (λ (d : Fed). d .replay .tallies) f ∙ sym (none-counted (r .tallies) (r .state)) ∙ ap (countedOf (r .tallies) (r .state)) (sym (lines-none line h));
+    }
+
+comes-end : (r : Replay) (line : List ℕ) (b : ℕ) (xs : List ℕ) → Kept (r .line) line → eqb b 10 ≡ true → Comes (nextLine r) [] xs → Comes r line (b ∷ xs)
+comes-end r line b xs k h c =
+    let s = r .state in
+    let n = nextLine r in
+    record {
+      text =
+          (λ i. said-end r b xs h i ++ written (finished (after-end r b xs h i))) ∙ append-assoc (saidLine r) (said n xs) (written (finished (after n xs)))
+          ∙ (λ i. text-same r line k i ++ c .text i) ∙ ap (λ (q : State). lineText s line ++ saidOf q (linesFrom [] xs)) (state-same r line k)
+          ∙ sym (said-cons s line (linesFrom [] xs)) ∙ ap (saidOf s) (sym (lines-end line b xs h));
+      tallies =
+          ap (λ (q : Replay). finished q .replay .tallies) (after-end r b xs h) ∙ c .tallies
+          ∙ (λ i. countedOf ((next-tallies r ∙ ap (counted (r .tallies)) (number-same r line k)) i) (state-same r line k i) (linesFrom [] xs))
+          ∙ sym (counted-cons (r .tallies) s line (linesFrom [] xs)) ∙ ap (countedOf (r .tallies) s) (sym (lines-end line b xs h));
+    }
+
+comes-char : (r : Replay) (line : List ℕ) (b : ℕ) (xs : List ℕ) → eqb b 10 ≡ false
+    → Comes (withLine r (pushed (r .line) b)) (line ++ (b ∷ [])) xs → Comes r line (b ∷ xs)
+comes-char r line b xs h c = record {
+  text = (λ i. said-char r b xs h i ++ written (finished (after-char r b xs h i))) ∙ c .text ∙ ap (saidOf (r .state)) (sym (lines-char line b xs h));
+  tallies = ap (λ (q : Replay). finished q .replay .tallies) (after-char r b xs h) ∙ c .tallies ∙ ap (countedOf (r .tallies) (r .state)) (sym (lines-char line b xs h));
+}
+
+-- the next line is kept too
+kept-next : (r : Replay) (line : List ℕ) → Kept (r .line) line → Kept (nextLine r .line) []
+kept-next r line k = subst (λ (l : Line). Kept l []) (sym (next-line r)) (kept-none (r .line) (k .room))
+
+comes : (xs : List ℕ) (r : Replay) (line : List ℕ) → Kept (r .line) line → Comes r line xs
+comes [] r line k = ⊎-elim (λ (h : length line ≤ 0). comes-none r line k h) (λ (h : 0 < length line). comes-some r line k h) (le-or-lt (length line) 0)
+comes (b ∷ xs) r line k =
+    ⊎-elim (λ (h : eqb b 10 ≡ true). comes-end r line b xs k h (comes xs (nextLine r) [] (kept-next r line k)))
+    (λ (h : eqb b 10 ≡ false). comes-char r line b xs h (comes xs (withLine r (pushed (r .line) b)) (line ++ (b ∷ [])) (kept-pushed (r .line) line b k)))
+    (either (eqb b 10))
+
+-- ---- from the start
+
+kept-fresh : Kept (freshReplay .line) []
+unfolding freshReplay
+kept-fresh = kept-none (freshReplay .line) (length-replicate {A = ℕ} 1098 0)
+
+fresh-tallies : freshReplay .tallies ≡ replicate 12 0
+unfolding freshReplay
+fresh-tallies = refl
+
+fresh-state : freshReplay .state ≡ freshState true
+unfolding freshReplay
+fresh-state = refl
+
+-- no tally before the first line
+no-tally : (n : ℕ) → getD (replicate {A = ℕ} 12 0) n 0 ≡ 0
+no-tally n = ⊎-elim (λ (h : 12 ≤ n). List·getD-eq-default (replicate {A = ℕ} 12 0) 0 {n = n} (omega (arith, length-replicate {A = ℕ} 12 0))) (λ (h : n < 12). getD-replicate 12 n 0 0 h) (le-or-lt 12 n)
+
+whole : (input : List ℕ) → Comes freshReplay [] input
+whole input = comes input freshReplay [] kept-fresh
+
+counts-are : (input : List ℕ) (n : ℕ) → getD (finished (after freshReplay input) .replay .tallies) n 0 ≡ min (countOf input n) most
+counts-are input n =
+    let z = no-tally n in
+    ap (λ (ts : List ℕ). getD ts n 0) (whole input .tallies ∙ (λ i. countedOf (fresh-tallies i) (fresh-state i) (linesOf input)))
+    ∙ tallied (linesOf input) (freshState true) (replicate 12 0) n (length-replicate {A = ℕ} 12 0) (omega (arith, z))
+    ∙ omega (arith, z)
+
+-- ---- the theorem
+
+pub output-of-pieces : OutputOfPieces
+output-of-pieces ps closing c =
+    let input = joined ps in
+    let p = pieces-replay freshReplay ps in
+    let last : lastFed ps ≡ finished (after freshReplay input) = ap finished p in
+    let said-all : piecesText freshReplay ps ++ written (lastFed ps) ≡ answersTo input =
+    (λ i. pieces-text freshReplay ps i ++ written (last i)) ∙ whole input .text ∙ ap (λ (q : State). saidOf q (linesOf input)) fresh-state in
+    let counts : (n : ℕ) → getD (lastFed ps .replay .tallies) n 0 ≡ min (countOf input n) most = λ n. ap (λ (d : Fed). getD (d .replay .tallies) n 0) last ∙ counts-are input n in (
+      closing,
+      sym (append-assoc (piecesText freshReplay ps) (written (lastFed ps)) closing) ∙ ap (λ (l : List ℕ). l ++ closing) said-all,
+      subst (λ (f : ℕ → ℕ). Closes f closing) (λ i n. counts n i) c,
+    )
