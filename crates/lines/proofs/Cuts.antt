@@ -5,7 +5,7 @@ use mathlib.Core.List.{List, [], _∷_, _++_, append-nil, append-assoc}
 use Prim.Native.Nat.{ℕ, zero, suc, _+_, _-_, _≤_, _<_}
 use native.Mathlib.Omega.{arith}
 use lib.Dec.{eqb}
-use lib.ListN.{length, take, drop, replicate, length-drop}
+use lib.ListN.{length, take, drop, replicate, length-append, length-drop}
 use lib.Seq.{take-append-seam}
 use Rattle.lines.specs.Replay.{textOf, saidLine, withByte, after, said, toNewline, fedOf}
 use Rattle.lines.specs.Whole.{written, pieceText, pieceReplay, piecesText, piecesReplay, joined}
@@ -42,6 +42,21 @@ piece-some : (xs : List ℕ) → length xs ≤ length (toNewline xs) + (length x
 unfolding toNewline
 piece-some [] = omega arith
 piece-some (b ∷ xs) = omega arith
+
+-- what a call of `feed` leaves, for its caller
+pub fed-step : (r : Replay) (xs : List ℕ) (f : Fed) → f ≡ fedOf r xs → after r xs ≡ after (f .replay) (drop (f .used) xs)
+unfolding fedOf
+fed-step r xs f e =
+    let p = toNewline xs in
+    let g : Fed → Replay = λ d. after (d .replay) (drop (d .used) xs) in
+    ap (after r) (sym (piece-rest xs)) ∙ after-cut r p (drop (length p) xs) ∙ ap g (sym e)
+
+pub fed-used : (r : Replay) (xs : List ℕ) (f : Fed) → f ≡ fedOf r xs → (f .used ≤ length xs) × (length xs ≤ f .used + (length xs - 1))
+unfolding fedOf
+fed-used r xs f e =
+    let p = toNewline xs in
+    let u : f .used ≡ length p = ap (λ (d : Fed). d .used) e in
+    (omega (arith, u, ap length (piece-rest xs), length-append p (drop (length p) xs)), omega (arith, u, piece-some xs))
 
 pub text-back : (l : List ℕ) → take (length l) (l ++ replicate (961 - length l) 0) ≡ l
 text-back l = take-append-seam l (replicate (961 - length l) 0)

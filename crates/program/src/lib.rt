@@ -1,0 +1,109 @@
+// The program `frames` but for its main: standard input to its end, piece by piece as reads give it, and what each call of
+// crate lines leaves to be written. A read that fails counts as the end of the input. After a write that fails nothing more is
+// read or written, and the program ends as it would otherwise.
+ghost use mathlib.Core.Path.{_≡_};
+ghost use mathlib.Core.Bool.{true};
+ghost use lib.ListN.{length};
+ghost use Rattle.lines.specs.Replay.{after};
+use libc::STDIN_FILENO;
+use libc::STDOUT_FILENO;
+use lines::Replay;
+
+// What is carried on, whether every write was done, and whether there may be more to read.
+struct Turn {
+    replay: Replay,
+    is_written: bool,
+    more: bool,
+}
+
+// The first `len` bytes.
+fn write(bytes: &[u8], len: usize) -> bool {
+    if len < bytes.len() {
+        return io::write_all(STDOUT_FILENO, &bytes[..len]);
+    }
+    io::write_all(STDOUT_FILENO, bytes)
+}
+
+// All that a piece of the input adds, by one call of `feed` after the other.
+fn piece(given: Replay, input: &[u8]) -> Turn
+    ensures { λ r. ⌜ (r .«is_written» ≡ true → r .replay ≡ after given (now (input .entry))) ⌝ }
+{
+    let mut replay = given;
+    let mut at: usize = 0;
+    while at < input.len() {
+        let f = lines::feed(replay, &input[at..]);
+        let next = f.replay;
+        let text = f.text;
+        let bytes = text.bytes;
+        replay = next;
+        if !write(&bytes, text.len) {
+            return Turn {
+                replay: replay,
+                is_written: false,
+                more: false,
+            };
+        }
+        at += f.used;
+    }
+    Turn {
+        replay: replay,
+        is_written: true,
+        more: true,
+    }
+}
+
+// One read.
+fn read_piece(given: Replay) -> Turn {
+    let mut buf = io::large_buffer();
+    let got = libc::read(STDIN_FILENO, &mut buf);
+    if got <= 0 {
+        return Turn {
+            replay: given,
+            is_written: true,
+            more: false,
+        };
+    }
+    let n = io::count(got, &buf);
+    piece(given, &buf[..n])
+}
+
+// Reads to the end of the input. A proved loop has to end, so it counts its turns down from a number that no run uses up.
+fn read_all(given: Replay) -> Turn {
+    let mut now = Turn {
+        replay: given,
+        is_written: true,
+        more: true,
+    };
+    let mut turns = u64::MAX;
+    while turns > 0 && now.more {
+        let replay = now.replay;
+        let next = read_piece(replay);
+        now = next;
+        turns -= 1;
+    }
+    now
+}
+
+// The line that no newline ended, then the counts.
+fn close(given: Replay) {
+    let f = lines::finish(given);
+    let text = f.text;
+    let bytes = text.bytes;
+    if write(&bytes, text.len) {
+        let replay = f.replay;
+        let tallies = replay.tallies;
+        let c = counts::closing_lines(tallies);
+        let closing = c.bytes;
+        write(&closing, c.len);
+    }
+}
+
+// Document 01's program `frames`.
+pub fn serve() {
+    let start = lines::start();
+    let t = read_all(start);
+    if t.is_written {
+        let replay = t.replay;
+        close(replay);
+    }
+}
