@@ -5,6 +5,7 @@
 
 Whatever is refused stands between frames whose samples depend on the state, so that a refusal that changes it is heard.
 """
+import math
 import random
 import sys
 
@@ -12,7 +13,8 @@ import sys
 sys.dont_write_bytecode = True
 import signals
 from calls import BLOCK, ERASED, HIGH, LIMITS, LOW, MEAN, high, low, near_mean, silent, speech, unvoiced, voiced, words, wrong
-from signals import HIST, LEAST, MOST, SUB, bits16
+from questions import at_edge
+from signals import ALL, HIST, LEAST, MOST, SUB, bits16
 
 LONGEST = 1098
 # Just outside the three ranges of digits.
@@ -166,16 +168,23 @@ def on_both_sides(rng):
 
 
 def lengths(rng):
-    """Lengths beside those of the kinds, and kinds that do not exist."""
+    """Lengths beside those of the kinds, and kinds that do not exist. 550 bytes are a line that is too long."""
     rate_high, rate_low = voiced(rng), unvoiced(rng, LOW)
     yield [rate_high[:88], rate_high, rate_high + [0], [LOW] + rate_high[1:], ERASED + rate_high[1:]]
-    yield [rate_low[:548], rate_low, [HIGH] + rate_low[1:], ERASED + rate_low[1:]]
+    yield [rate_low[:548], rate_low, rate_low + [0], [HIGH] + rate_low[1:], ERASED + rate_low[1:]]
     yield [ERASED, [0, 0], [HIGH], [LOW], [3], [255], [HIGH] * 2, [3] * 89, [255] * 549]
 
 
+def in_a_run(rng):
+    """Each number in a run of erased frames."""
+    good = voiced(rng)
+    return [good, ERASED, *[wrong(n, good) for n in range(3, 11)], ERASED]
+
+
 def frames_refused(rng):
+    first = [text(record) for record in in_a_run(rng)]
     groups = [*alone(rng), list(lowest(rng)), *on_both_sides(rng), *lengths(rng)]
-    return between(rng, [[text(record) for record in group] for group in groups])
+    return first + between(rng, [[text(record) for record in group] for group in groups])
 
 
 # ---- calls
@@ -221,17 +230,52 @@ def with_lsps(record, lsps):
     return record[:1] + words(lsps) + record[21:]
 
 
+def turns(lsps):
+    """How many passes move a pair, at most 12: to choose LSPs by."""
+    p, n = list(lsps), 0
+    while n < 12 and any(b - a < 256 for a, b in zip(p, p[1:])):
+        for j in range(9):
+            if p[j + 1] - p[j] < 256:
+                middle = (p[j] + p[j + 1]) // 2
+                p[j], p[j + 1] = max(middle - 128, LEAST), min(middle + 128, MOST)
+        n += 1
+    return n
+
+
+def by_turns(rng, wanted):
+    return next(p for p in iter(lambda: at_edge(rng, 256), None) if turns(p) == wanted)
+
+
 def unstable(rng):
-    """LSPs that are moved apart, and those that give way to the previous ones."""
+    """LSPs that are moved apart, also by the last pass or at the ends, and those that give way to the previous ones."""
     close = [m - m % 2000 // 3 * (i % 2) for i, m in enumerate(MEAN)]
     near = list(MEAN)
     near[4] = near[3] + 300
     ladder = [8000 + 255 * i for i in range(10)]
     rows = [list(reversed(MEAN)), [LEAST] * 10, close, [MOST] * 10, ladder, near]
     rows += [bits16(rng, 10), sorted(bits16(rng, 10)), [1000, 1100, *range(2000, 10000, 1000)]]
+    rows += [by_turns(rng, 10), by_turns(rng, 11), [LEAST, LEAST + 248, *MEAN[2:]], [*MEAN[:8], MOST - 167, MOST]]
     for lsps in rows:
         yield with_lsps(voiced(rng), lsps)
     yield from (ERASED, ERASED, voiced(rng))
+
+
+def code_of(slots):
+    """The position code of slots in their order."""
+    code, wanted = 0, len(slots)
+    for slot in range(slots[-1]):
+        if slot in slots:
+            wanted -= 1
+        else:
+            code += math.comb(29 - slot, wanted - 1)
+    return code
+
+
+def met(rng):
+    """Four pulses that a train brings to one sample, past 16 bits, on an adaptive part below 0."""
+    yield low(MEAN, (42, 1, 42, 1), [(NO_TAPS, 9, [-12000] * SUB)] * 4)
+    pulses = [(0, 9, 18, 27, 28, 29), (0, 9, 18, 27, 29)]
+    yield high(MEAN, (0, 1, 0, 1), [([0, 0, 16384, 0, 0], 23, 2, 0, code_of(pulses[s % 2])) for s in range(4)])
 
 
 def saturated(rng):
@@ -246,6 +290,16 @@ def saturated(rng):
     yield from (voiced(rng), voiced(rng), ERASED)
 
 
+def wild(rng):
+    """Every free field at random over its whole range."""
+    for _ in range(2):
+        pulses = [(bits16(rng, 5), rng.randrange(24), s % 2, rng.randrange(32), rng.randrange(1 << 24) >> 4 * s) for s in range(4)]
+        yield high(bits16(rng, 10), (rng.randrange(128), 0, rng.randrange(128), 3), pulses)
+        values = [(bits16(rng, 5), rng.randrange(24), bits16(rng, SUB)) for _ in range(4)]
+        yield low(sorted(bits16(rng, 10)), (rng.randrange(128), 2, rng.randrange(128), 0), values)
+        yield ERASED
+
+
 def given_excitation(x, lag):
     """Two Low frames whose excitation ends in a signal of history and frame, the second at a base lag."""
     values = [0] * (4 * SUB - HIST) + x
@@ -254,12 +308,54 @@ def given_excitation(x, lag):
         yield low(MEAN, (code, 1, code, 1), [(NO_TAPS, 9, part[s * SUB :][:SUB]) for s in range(4)])
 
 
+def tie_is_heard(x, p, lag):
+    """Floored quotients tie, and the samples at the two lags are below 0, where a small part counts, at other places."""
+    if not signals.floors_tie_within(x, p, lag):
+        return False
+    best = signals.best(x, p, lag, False)
+    quotient = best[1] ** 2 // best[2]
+    first = next(a for a in signals.candidates(x, p, lag, False) if a[1] ** 2 // a[2] == quotient)
+    return any((x[p + n - best[0]] < 0) != (x[p + n - first[0]] < 0) for n in range(SUB))
+
+
+def placed(p, *places):
+    """Samples of 1000 around a place, and none else."""
+    x = [0] * ALL
+    for place in places:
+        x[p + place] = 1000
+    return x
+
+
 def ties(rng):
-    """Excitation where lags tie by floored quotients alone, within a direction and between both, and at the gate."""
-    within, between_both, gate = signals.floors_tie_within, signals.floors_tie_between, signals.at_gate
-    for test, made in ((within, signals.sparse), (between_both, signals.repeating), (gate, signals.sparse)):
+    """Excitation where lags tie by floored quotients alone, within a direction and between both, and exactly."""
+    for test, made in ((tie_is_heard, signals.sparse), (signals.floors_tie_between, signals.repeating)):
         for _, lag, x in signals.searched(rng, test, made, 1):
             yield from given_excitation(x, lag)
+    # Lags 62 and 64 have equal sums of samples at other places.
+    yield from given_excitation(placed(HIST + SUB, 20, -42, -44), 63)
+
+
+def gated(rng):
+    """At the gate, at a period that a search with one more lag would find, and with a result of less energy."""
+    # c and d are a sample's square, the energy four times it.
+    yield from given_excitation(placed(HIST + SUB, 10, 20, 30, 40, -52), 63)
+    yield from given_excitation(signals.periodic(rng, ALL, 146, 30, 6), 145)
+    x = [0] * ALL
+    x[HIST : HIST + 7] = [100] + [10] * 6
+    x[HIST - SUB : HIST - SUB + 7] = [3] + [-1] * 6
+    yield from given_excitation(x, 60)
+
+
+def off_centre(rng):
+    """Losses after a period that is within three of subframe 2's lag, 48, and not of subframe 3's, 50."""
+    x = signals.periodic(rng, ALL, 45, 900, 9)
+    start, lag = HIST + 3 * SUB, 50
+    first, second = given_excitation(x, 48)
+    # With a tap in subframe 3, so that the loss is heard; the values make up for it.
+    taken = [(12000 * x[start - lag + n % lag] + 8192) // 16384 for n in range(SUB)]
+    second[24] = 3
+    second[BLOCKS + 3 * BLOCK[LOW] :] = words([0, 0, 12000, 0, 0]) + [9] + words(v - a for v, a in zip(x[start:], taken))
+    return [first, second, ERASED, ERASED]
 
 
 def frames_calls(rng):
@@ -276,7 +372,12 @@ def frames_calls(rng):
         *[at_lag(rng, *lags) for lags in ENDS],
         *[ERASED, ERASED],
         *saturated(rng),
+        *wild(rng),
+        *lossy(rng, unvoiced, HIGH, 2, 1),
+        *met(rng),
         *ties(rng),
+        *gated(rng),
+        *off_centre(rng),
         *[ERASED, silent(LOW), ERASED],
     ]
     return [text(record) for record in records]
