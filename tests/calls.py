@@ -3,11 +3,14 @@
 
 Calls are High, Low and mixed, with losses of 1 to 6 frames after voiced and unvoiced speech, silence, saturation, unstable
 LSPs, extreme taps and lags at both ends, with the postfilter on and off. Every number is asked alone, with each lower one and
-with all lower ones true as well, and states at each bound of number 2 and one beyond.
+with all lower ones true as well, and states at each bound of number 2 and one beyond. Last come states in which one step of
+voicing or gain decides.
 """
+import math
 import random
 
-from signals import LEAST, MOST, bits16, noise
+from signals import LEAST, MOST, bits16, noise, periodic
+from voicing import leader
 
 MEAN = [3131, 4721, 7690, 10806, 13872, 16495, 19752, 22260, 25484, 27718]
 HIGH, LOW = 1, 2
@@ -129,6 +132,8 @@ def main():
     extremes(rng)
     given(rng)
     numbers(rng)
+    narrow(rng)
+    loudest()
 
 
 def extremes(rng):
@@ -310,6 +315,60 @@ def numbers(rng):
         decode(plain, length, -3)
         decode([], length)
     decode(good)
+
+
+# ---- what one step decides
+
+
+def lost(rng, lag, tail):
+    """An erased frame after a tail, heard otherwise at each lag and as noise."""
+    f = fields()
+    f["pcm_hist"], f["exc_hist"], f["last_lag2"] = tail, noise(rng, 146, 900), [lag]
+    f["taps_sum"], f["gain_unvoiced"] = [30000], [300]
+    state(f)
+    decode(ERASED)
+
+
+def narrow(rng):
+    # A period below the shortest lag.
+    lost(rng, 18, periodic(rng, 120, 16, 900, 9))
+    # 8 c² = e t.
+    lost(rng, 60, [500 if i == 10 or 70 <= i < 78 else 0 for i in range(120)])
+    # Ranks so close that their scale decides.
+    for step, bits in ((60, 24), (3, 36)):
+        lag, tail = 0, []
+        while not tail or leader(tail, lag, bits) == leader(tail, lag, 30):
+            lag = rng.randrange(21, 100)
+            tail = [30000 + rng.randrange(-step, step + 1) for _ in range(120)]
+        lost(rng, lag, tail)
+
+
+def coefficients(lsps):
+    """The coefficients of LSPs, as fractions: to choose a record by, never to answer."""
+    both = []
+    for first in (0, 1):
+        p = [1.0] + [0.0] * 10
+        for lsp in lsps[first::2]:
+            c = 2 * math.cos(math.pi * lsp / 32768)
+            p = [p[i] - c * (p[i - 1] if i > 0 else 0) + (p[i - 2] if i > 1 else 0) for i in range(11)]
+        both.append(p)
+    p, q = both
+    return [-(p[j] + p[j - 1] + q[j] - q[j - 1]) / 2 for j in range(1, 11)]
+
+
+def loudest():
+    """A subframe that the formant filter's zeros cancel, so that the gain's target is at its limit."""
+    a = coefficients(MEAN)
+    past = [10000 if x > 0 else -10000 for x in a]
+    f = fields()
+    f["syn_mem"], f["num_mem"] = list(past), list(past)
+    values = []
+    for _ in range(60):
+        y = round(sum(x * 0.65 ** (j + 1) * past[j] for j, x in enumerate(a)))
+        values.append(y - round(sum(x * past[j] for j, x in enumerate(a))))
+        past = [y] + past[:9]
+    state(f)
+    decode(low(MEAN, (124, 1, 124, 1), [([0] * 5, 0, part) for part in (values, [0] * 60, [0] * 60, [0] * 60)]))
 
 
 if __name__ == "__main__":

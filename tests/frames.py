@@ -1,0 +1,417 @@
+#!/usr/bin/env python3
+"""Writes the input of a program that reads records as lines.
+
+    tests/frames.py NAME     for NAME see PROGRAMS below
+
+Whatever is refused stands between frames whose samples depend on the state, so that a refusal that changes it is heard.
+"""
+import math
+import random
+import sys
+
+# A cache of the modules beside this script would be left in the repository.
+sys.dont_write_bytecode = True
+import signals
+from calls import BLOCK, ERASED, HIGH, LIMITS, LOW, MEAN, high, low, near_mean, silent, speech, unvoiced, voiced, words, wrong
+from questions import at_edge
+from signals import ALL, HIST, LEAST, MOST, SUB, bits16
+
+LONGEST = 1098
+# Just outside the three ranges of digits.
+BESIDE = b"/:@G`g"
+NO_TAPS = [0] * 5
+BLOCKS = 25
+
+
+def text(record):
+    return bytes(record).hex().upper().encode()
+
+
+def mixed_case(line):
+    return bytes(pair[i % 3 % 2] for i, pair in enumerate(zip(line.upper(), line.lower())))
+
+
+def probes(rng):
+    """Frames that are heard otherwise if the state was changed before them: erased ones at most thrice in a row."""
+    while True:
+        yield text(voiced(rng))
+        yield b"00"
+        yield b"00"
+        yield text(unvoiced(rng))
+        yield b"00"
+
+
+def between(rng, groups):
+    """The groups of lines, with a probe before each and after the last."""
+    probe = probes(rng)
+    lines = [next(probe)]
+    for group in groups:
+        lines += [*group, next(probe)]
+    return lines
+
+
+# ---- what is no record
+
+
+def beside_digits(good):
+    """A character that is no digit at the ends of a record and of a pair, and in the middle."""
+    for c in BESIDE:
+        bad = bytes([c])
+        spoilt = [good[:i] + bad + good[i + 1 :] for i in (0, 1, 88, 89, len(good) - 2, len(good) - 1)]
+        yield [*spoilt, bad, bad + bad, good + bad, bad + good]
+
+
+def every_byte():
+    """Each byte but the newline as either digit of a pair; those of an erased frame are left to other lines."""
+    for places in (b"%c0", b"0%c"):
+        yield [places % c for c in range(256) if c not in b"\n0"]
+
+
+def spaced(good):
+    """White space and a carriage return around digits, with odd and with even counts."""
+    yield [good + b"\r", b"00\r", good[:-1] + b"\r", b"0\r", b"\r", b"\r\r", b"\r" + good, b"\r00"]
+    for c in b" \t\0":
+        blank = bytes([c])
+        inside = good[:40] + blank * 2 + good[40:]
+        yield [good + blank, blank + good, good + blank * 2, blank * 2 + good, inside, blank, blank * 2]
+    yield [b"0x" + good, b"0X00", good + b",", good + good, b"+0", b"-0", b"\xef\xbb\xbf" + good, b"\xff\xfe"]
+
+
+def long_lines(rng):
+    """Lines around the longest, and far longer ones: a record that is accepted, and what stands after it."""
+    record = text(unvoiced(rng, LOW))
+    yield [record]
+    yield [record[:-2], record[:-1], record + b"0", record + b"00", record + b"\r", record[:-1] + b"g"]
+    yield [b"03" + record[2:], b"01" + record[2:], b"00" + record[2:], b"01" * 549 + b"0", b"01" * 550]
+    # One that a length of sixteen bits would take for a High record.
+    yield [(text(voiced(rng)) * 400)[: 65536 + 178]]
+    yield [record + b"0" * (100_000 - LONGEST)]
+
+
+def frames_text(rng):
+    good = text(voiced(rng))
+    other = text(unvoiced(rng))
+    groups = [
+        [good.lower(), good, mixed_case(good)],
+        [mixed_case(other), other.lower()],
+        [b"", b"", b""],
+        [b"0", b"000", good[:-1], good[1:], good + b"0", b"A", b"f"],
+        *beside_digits(good),
+        *every_byte(),
+        *spaced(good),
+        *long_lines(rng),
+    ]
+    return between(rng, groups)
+
+
+# ---- what is refused by a number
+
+
+def put(record, place, value):
+    return record[:place] + [value] + record[place + 1 :]
+
+
+def in_block(record, s, place, value):
+    return put(record, BLOCKS + s * BLOCK[record[0]] + place, value)
+
+
+def trained(record, code, s):
+    """The record with one train, at a base lag code."""
+    for k in range(4):
+        record = in_block(record, k, 11, 0)
+    return in_block(put(record, 21 + s // 2 * 2, code), s, 11, 2)
+
+
+def alone(rng):
+    """Each number alone: of 6 to 10 each at every place that can have it."""
+    good = voiced(rng)
+    yield [[], [3], put(good, 0, 3), put(good, 0, 255), good + [0], good[:-1]]
+    yield [put(good, place, value) for place in (21, 23) for value in (128, 255)]
+    yield [put(good, place, value) for place in (22, 24) for value in (4, 255)]
+    for place, values in ((10, (24, 255)), (11, (4, 255)), (12, None)):
+        yield [in_block(good, s, place, v) for s in range(4) for v in values or ((64, 128), (32, 64))[s % 2]]
+    yield [trained(good, 40, s) for s in range(4)]
+    quiet = silent(LOW)
+    yield [put(quiet, 23, 128), put(quiet, 22, 4), in_block(quiet, 3, 10, 24)]
+
+
+def lowest(rng):
+    """Several numbers at once: every two of them, all from one on, and the lower one in the later subframe."""
+    good = voiced(rng)
+    for n in range(4, 10):
+        record = good
+        for m in range(10, n - 1, -1):
+            pair = wrong(n, wrong(m, good))
+            record = wrong(m, record)
+            yield pair
+        yield record
+    for n, m in ((8, 9), (8, 10), (9, 10)):
+        faults = {8: (10, 24), 9: (11, 4), 10: (12, 64)}
+        yield in_block(in_block(good, 3, *faults[n]), 0, *faults[m])
+
+
+def on_both_sides(rng):
+    """At each limit, the last that is accepted and the first that is not."""
+    good = voiced(rng)
+    for place in (21, 23):
+        plain = trained(good, 20, 2 - (place - 21))
+        yield [put(plain, place, code) for code in (127, 128)]
+    for place in (22, 24):
+        yield [put(good, place, step) for step in (3, 4)]
+    for s in range(4):
+        yield [in_block(good, s, 10, gain) for gain in (23, 24)]
+        yield [in_block(trained(good, 20, s), s, 11, flags) for flags in (3, 4)]
+        yield [trained(good, code, s) for code in (39, 40)]
+        yield [in_block(good, s, 12, signs) for signs in ((63, 64), (31, 32))[s % 2]]
+        # Bit n - 1 alone, and bit n alone with those below.
+        yield [in_block(good, s, 12, signs) for signs in ((32, 127), (16, 63))[s % 2]]
+
+
+def lengths(rng):
+    """Lengths beside those of the kinds, and kinds that do not exist. 550 bytes are a line that is too long."""
+    rate_high, rate_low = voiced(rng), unvoiced(rng, LOW)
+    yield [rate_high[:88], rate_high, rate_high + [0], [LOW] + rate_high[1:], ERASED + rate_high[1:]]
+    yield [rate_low[:548], rate_low, rate_low + [0], [HIGH] + rate_low[1:], ERASED + rate_low[1:]]
+    yield [ERASED, [0, 0], [HIGH], [LOW], [3], [255], [HIGH] * 2, [3] * 89, [255] * 549]
+
+
+def in_a_run(rng):
+    """Each number in a run of erased frames."""
+    good = voiced(rng)
+    return [good, ERASED, *[wrong(n, good) for n in range(3, 11)], ERASED]
+
+
+def frames_refused(rng):
+    first = [text(record) for record in in_a_run(rng)]
+    groups = [*alone(rng), list(lowest(rng)), *on_both_sides(rng), *lengths(rng)]
+    return first + between(rng, [[text(record) for record in group] for group in groups])
+
+
+# ---- calls
+
+
+def lossy(rng, make, kind, before, lost, after=1):
+    """Frames, as many lost ones, and frames again."""
+    return [make(rng, kind) for _ in range(before)] + [ERASED] * lost + [make(rng, kind) for _ in range(after)]
+
+
+# Kinds, base lags and steps near both limits, and where the voicing search leaves its tail.
+ENDS = [(HIGH, 18, 145, (0, 3)), (LOW, 145, 142, (3, 0)), (LOW, 141, 143, (2, 1)), (HIGH, 116, 118, (1, 2))]
+
+
+def at_lag(rng, kind, lag_a, lag_b, steps):
+    """Speech whose base lags and steps are given."""
+    record = speech(rng, kind, 60, 9000, 14)
+    record[21:25] = [lag_a - 18, steps[0], lag_b - 18, steps[1]]
+    return record
+
+
+def train(rng, lag_a, lag_b, codes, gain=12):
+    """A train in every subframe, on either grid."""
+    blocks = [([0, 0, 6000, 0, 0], gain, 2 + (s + codes[0]) % 2, rng.randrange((64, 32)[s % 2]), codes[s]) for s in range(4)]
+    return high(near_mean(rng), (lag_a - 18, rng.randrange(4), lag_b - 18, rng.randrange(4)), blocks)
+
+
+def trains(rng):
+    """Base lags at both ends and between; pulses that meet those of other multiples, and codes at the limits."""
+    for lag_a, lag_b in ((18, 57), (20, 19), (29, 30), (56, 24)):
+        yield train(rng, lag_a, lag_b, [rng.randrange(limit) for limit in LIMITS])
+    yield train(rng, 18, 20, [0, 0, 118754, 142505])
+    yield train(rng, 22, 18, [118755, 1, 593774, 0], 23)
+
+
+def codes(rng):
+    """Position codes at the limit, on both sides of it and far above."""
+    for found in ((593774, 142505, 593775, 142506), (593776, 142507, 0xFFFFFF, 0xFFFFFF), (0, 0, 1 << 20, 1 << 18)):
+        yield high(near_mean(rng), (30, 0, 90, 3), [(NO_TAPS, 15 + s, s % 2, (41, 19)[s % 2], found[s]) for s in range(4)])
+
+
+def with_lsps(record, lsps):
+    return record[:1] + words(lsps) + record[21:]
+
+
+def turns(lsps):
+    """How many passes move a pair, at most 12: to choose LSPs by."""
+    p, n = list(lsps), 0
+    while n < 12 and any(b - a < 256 for a, b in zip(p, p[1:])):
+        for j in range(9):
+            if p[j + 1] - p[j] < 256:
+                middle = (p[j] + p[j + 1]) // 2
+                p[j], p[j + 1] = max(middle - 128, LEAST), min(middle + 128, MOST)
+        n += 1
+    return n
+
+
+def by_turns(rng, wanted):
+    return next(p for p in iter(lambda: at_edge(rng, 256), None) if turns(p) == wanted)
+
+
+def unstable(rng):
+    """LSPs that are moved apart, also by the last pass or at the ends, and those that give way to the previous ones."""
+    close = [m - m % 2000 // 3 * (i % 2) for i, m in enumerate(MEAN)]
+    near = list(MEAN)
+    near[4] = near[3] + 300
+    ladder = [8000 + 255 * i for i in range(10)]
+    rows = [list(reversed(MEAN)), [LEAST] * 10, close, [MOST] * 10, ladder, near]
+    rows += [bits16(rng, 10), sorted(bits16(rng, 10)), [1000, 1100, *range(2000, 10000, 1000)]]
+    rows += [by_turns(rng, 10), by_turns(rng, 11), [LEAST, LEAST + 248, *MEAN[2:]], [*MEAN[:8], MOST - 167, MOST]]
+    for lsps in rows:
+        yield with_lsps(voiced(rng), lsps)
+    yield from (ERASED, ERASED, voiced(rng))
+
+
+def code_of(slots):
+    """The position code of slots in their order."""
+    code, wanted = 0, len(slots)
+    for slot in range(slots[-1]):
+        if slot in slots:
+            wanted -= 1
+        else:
+            code += math.comb(29 - slot, wanted - 1)
+    return code
+
+
+def met(rng):
+    """Four pulses that a train brings to one sample, past 16 bits, on an adaptive part below 0."""
+    yield low(MEAN, (42, 1, 42, 1), [(NO_TAPS, 9, [-12000] * SUB)] * 4)
+    pulses = [(0, 9, 18, 27, 28, 29), (0, 9, 18, 27, 29)]
+    yield high(MEAN, (0, 1, 0, 1), [([0, 0, 16384, 0, 0], 23, 2, 0, code_of(pulses[s % 2])) for s in range(4)])
+
+
+def saturated(rng):
+    """Taps, gains and values at their ends, and what is lost and received after them."""
+    for tap in (MOST, LEAST):
+        blocks = [([tap] * 5, 23, 2 * (s % 2) + 1, (63, 31)[s % 2], 0) for s in range(4)]
+        yield high(near_mean(rng, 2000), (0, 0, 0, 3), blocks)
+    rails = [(MOST, LEAST)[i // 7 % 2] for i in range(SUB)]
+    yield low(near_mean(rng), (5, 0, 5, 3), [([MOST, LEAST, MOST, LEAST, MOST], 23, rails)] * 4)
+    yield low(near_mean(rng), (60, 1, 60, 1), [([0, 0, 16384, 0, 0], 23, rails)] * 4)
+    yield from (ERASED, ERASED)
+    yield from (voiced(rng), voiced(rng), ERASED)
+
+
+def wild(rng):
+    """Every free field at random over its whole range."""
+    for _ in range(2):
+        pulses = [(bits16(rng, 5), rng.randrange(24), s % 2, rng.randrange(32), rng.randrange(1 << 24) >> 4 * s) for s in range(4)]
+        yield high(bits16(rng, 10), (rng.randrange(128), 0, rng.randrange(128), 3), pulses)
+        values = [(bits16(rng, 5), rng.randrange(24), bits16(rng, SUB)) for _ in range(4)]
+        yield low(sorted(bits16(rng, 10)), (rng.randrange(128), 2, rng.randrange(128), 0), values)
+        yield ERASED
+
+
+def given_excitation(x, lag):
+    """Two Low frames whose excitation ends in a signal of history and frame, the second at a base lag."""
+    values = [0] * (4 * SUB - HIST) + x
+    frames = [values[: 4 * SUB], values[4 * SUB :]]
+    for code, part in zip((42, lag - 18), frames):
+        yield low(MEAN, (code, 1, code, 1), [(NO_TAPS, 9, part[s * SUB :][:SUB]) for s in range(4)])
+
+
+def tie_is_heard(x, p, lag):
+    """Floored quotients tie, and the samples at the two lags are below 0, where a small part counts, at other places."""
+    if not signals.floors_tie_within(x, p, lag):
+        return False
+    best = signals.best(x, p, lag, False)
+    quotient = best[1] ** 2 // best[2]
+    first = next(a for a in signals.candidates(x, p, lag, False) if a[1] ** 2 // a[2] == quotient)
+    return any((x[p + n - best[0]] < 0) != (x[p + n - first[0]] < 0) for n in range(SUB))
+
+
+def placed(p, *places):
+    """Samples of 1000 around a place, and none else."""
+    x = [0] * ALL
+    for place in places:
+        x[p + place] = 1000
+    return x
+
+
+def ties(rng):
+    """Excitation where lags tie by floored quotients alone, within a direction and between both, and exactly."""
+    for test, made in ((tie_is_heard, signals.sparse), (signals.floors_tie_between, signals.repeating)):
+        for _, lag, x in signals.searched(rng, test, made, 1):
+            yield from given_excitation(x, lag)
+    # Lags 62 and 64 have equal sums of samples at other places.
+    yield from given_excitation(placed(HIST + SUB, 20, -42, -44), 63)
+
+
+def gated(rng):
+    """At the gate, at a period that a search with one more lag would find, and with a result of less energy."""
+    # c and d are a sample's square, the energy four times it.
+    yield from given_excitation(placed(HIST + SUB, 10, 20, 30, 40, -52), 63)
+    yield from given_excitation(signals.periodic(rng, ALL, 146, 30, 6), 145)
+    x = [0] * ALL
+    x[HIST : HIST + 7] = [100] + [10] * 6
+    x[HIST - SUB : HIST - SUB + 7] = [3] + [-1] * 6
+    yield from given_excitation(x, 60)
+
+
+def off_centre(rng):
+    """Losses after a period that is within three of subframe 2's lag, 48, and not of subframe 3's, 50."""
+    x = signals.periodic(rng, ALL, 45, 900, 9)
+    start, lag = HIST + 3 * SUB, 50
+    first, second = given_excitation(x, 48)
+    # With a tap in subframe 3, so that the loss is heard; the values make up for it.
+    taken = [(12000 * x[start - lag + n % lag] + 8192) // 16384 for n in range(SUB)]
+    second[24] = 3
+    second[BLOCKS + 3 * BLOCK[LOW] :] = words([0, 0, 12000, 0, 0]) + [9] + words(v - a for v, a in zip(x[start:], taken))
+    return [first, second, ERASED, ERASED]
+
+
+def frames_calls(rng):
+    records = [
+        *[ERASED, silent(HIGH)],
+        *lossy(rng, voiced, HIGH, 5, 5, 2),
+        *lossy(rng, unvoiced, HIGH, 3, 4, 2),
+        *lossy(rng, voiced, LOW, 3, 4, 1),
+        *lossy(rng, unvoiced, LOW, 3, 2, 1),
+        *[make(rng, kind) for make, kind in zip((voiced, unvoiced, voiced, voiced) * 2, (HIGH, LOW) * 4)],
+        *trains(rng),
+        *codes(rng),
+        *unstable(rng),
+        *[at_lag(rng, *lags) for lags in ENDS],
+        *[ERASED, ERASED],
+        *saturated(rng),
+        *wild(rng),
+        *lossy(rng, unvoiced, HIGH, 2, 1),
+        *met(rng),
+        *ties(rng),
+        *gated(rng),
+        *off_centre(rng),
+        *[ERASED, silent(LOW), ERASED],
+    ]
+    return [text(record) for record in records]
+
+
+# ---- the programs
+
+
+def ended(make):
+    return lambda rng: b"".join(line + b"\n" for line in make(rng))
+
+
+def frames_unended(rng):
+    return b"\n".join([text(voiced(rng)), text(voiced(rng)), b"00", b"0", b"09", text(voiced(rng))])
+
+
+def frames_long(rng):
+    return b"\n".join([text(voiced(rng)), b"00", text(unvoiced(rng, LOW)) + b"0"])
+
+
+PROGRAMS = {
+    "frames": lambda rng: b"00\n09\n\n",
+    "frames_empty": lambda rng: b"",
+    "frames_unended": frames_unended,
+    "frames_long": frames_long,
+    "frames_text": ended(frames_text),
+    "frames_refused": ended(frames_refused),
+    "frames_calls": ended(frames_calls),
+}
+
+
+def main():
+    sys.stdout.buffer.write(PROGRAMS[sys.argv[1]](random.Random(7231)))
+
+
+if __name__ == "__main__":
+    main()
