@@ -134,12 +134,11 @@ goes r (b ∷ xs) h =
 
 -- ---- what `feed` answers
 
-pub fed-ended : (r : Replay) (xs : List ℕ) (m : Replay) (f : Fed) → newlineAt xs < length xs → m ≡ longer r xs → f ≡ endedOf m
+pub fed-ended : (r : Replay) (xs : List ℕ) (f : Fed) → newlineAt xs < length xs → f ≡ endedOf (longer r xs)
     → record { replay = f .replay; text = f .text; used = newlineAt xs + 1 } ≡ fedOf r xs
 unfolding fedOf endedOf
-fed-ended r xs m f h e g =
+fed-ended r xs f h k =
     let w = ends r xs h in
-    let k = g ∙ (λ i. endedOf (e i)) in
     λ i. record {
       replay = (ap (λ (d : Fed). d .replay) k ∙ sym (w .carried)) i;
       text = (ap (λ (d : Fed). d .text) k ∙ ap textOf (sym (w .told))) i;

@@ -2,13 +2,16 @@
 use mathlib.Core.Path.{_≡_, refl, sym, ap, _∙_}
 use mathlib.Core.Bool.{Bool, true, false, cond, not, _&&_, _||_}
 use mathlib.Core.List.{List, [], _∷_, _++_, append-nil}
+use mathlib.Core.Logic.{⊎-elim}
 use Prim.Native.Nat.{ℕ, _+_, _-_, _*_, _/_, _≤_, _<_}
 use native.Mathlib.Omega.{arith}
-use lib.Dec.{eqb, ltb}
+use lib.Dec.{eqb, ltb, leb}
 use lib.IntN.{ℤ}
 use lib.ListN.{length, take, replicate, length-append}
 use lib.Seq.{take-at}
-use borrow.Author.Tests.{le-leb, lt-ltb, le-ltb}
+use borrow.Author.Tests.{le-leb, lt-leb, leb-true, lt-ltb, le-ltb, ltb-false}
+use Rattle.integers.specs.Natural.{le-or-lt}
+use Rattle.integers.specs.Truth.{both, neither}
 use Rattle.integers.specs.Base.{tabulate}
 use Rattle.integers.specs.Fill.{tabulate-length}
 use Rattle.digits.specs.Digits.{digitAt, sampleLine, pairValue, bytesOf, arePairs, pairsOf}
@@ -17,9 +20,9 @@ use Rattle.decoder.specs.declared.Answer.{Answer}
 use Rattle.counts.specs.Counts.{counted}
 use Rattle.state.specs.State.{freshState}
 use Rattle.state.specs.declared.State.{State}
-use Rattle.lines.specs.Replies.{silence, refusalLine, numberFor, stateFor, textFor}
-use Rattle.lines.specs.Replay.{textOf, characters, isRecord, isBegun, emptied, freshReplay, nextLine, saidLine, endedOf, finished}
-use Rattle.lines.specs.Parts.{answerLine, replyOf}
+use Rattle.lines.specs.Replies.{silence, refusalLine, numberFor, stateFor, textFor, isRecordLine}
+use Rattle.lines.specs.Replay.{textOf, characters, isRecord, isBegun, blank, freshReplay, nextLine, saidLine, endedOf, finished}
+use Rattle.lines.specs.Parts.{answerLine, replyOf, lineReply, textReply, fedBy}
 use Rattle.lines.specs.declared.Line.{Line}
 use Rattle.lines.specs.declared.Text.{Text}
 use Rattle.lines.specs.declared.Replay.{Replay}
@@ -60,16 +63,6 @@ no-reply-of s bytes b h = rw h
 pub not-when-over : (l : Line) → l .over ≡ true → isRecord l ≡ false
 not-when-over l h = rw h
 
-pub not-when-no-pairs : (l : Line) → arePairs (characters l) ≡ false → isRecord l ≡ false
-not-when-no-pairs l h = rw h (and-false (not (l .over)))
-  where
-    and-false : (b : Bool) → (b && false) ≡ false
-    and-false true = refl
-    and-false false = refl
-
-pub record-when : (l : Line) → l .over ≡ false → arePairs (characters l) ≡ true → true ≡ isRecord l
-record-when l h k = rw (h, k)
-
 -- ---- a record, by what the decoder promises
 
 pub record-reply : (s : State) (bytes : List ℕ) (a : Answer) (n : ℕ) (xs : List ℤ) (t : Text)
@@ -78,23 +71,29 @@ pub record-reply : (s : State) (bytes : List ℕ) (a : Answer) (n : ℕ) (xs : L
 unfolding replyOf numberFor stateFor textFor
 record-reply s bytes a n xs t ea en ex et = λ i. record { state = ea i .state; number = en i; text = (et ∙ (λ k. textOf (answerLine (en k) (ex k)))) i }
 
--- ---- the bytes of a line of at most 1,098 characters
+-- ---- a text as digit pairs
 
-pub pairs-are : (text : List ℕ) → length text ≤ 1098 → pairsOf text .«are_pairs» ≡ arePairs text
+pub pairs-are : (text : List ℕ) → pairsOf text .«are_pairs» ≡ isRecordLine text
 unfolding pairsOf
-pairs-are text h = rw (le-leb (length text) 1098 h)
+pairs-are text =
+    ⊎-elim (λ (h : length text ≤ 1098). rw (le-leb (length text) 1098 h)) (λ (h : 1098 < length text). rw (lt-leb (length text) 1098 h)) (le-or-lt (length text) 1098)
+
+pub pairs-short : (text : List ℕ) → isRecordLine text ≡ true → length text ≤ 1098
+pairs-short text h = leb-true (length text) 1098 (both (leb (length text) 1098) (arePairs text) h .0)
 
 pub pairs-bytes : (text : List ℕ) → length text ≤ 1098 → take (pairsOf text .count) (pairsOf text .bytes) ≡ bytesOf text
 unfolding pairsOf
 pairs-bytes text h = rw (le-leb (length text) 1098 h) (take-at (bytesOf text) (replicate (549 - length text / 2) 0) (length text / 2) (tabulate-length (pairValue text) (length text / 2)))
 
+-- the characters of a line that is not over are its text
+pub line-text : (l : Line) (s : State) → l .over ≡ false → length (characters l) ≤ 1098 → textReply (characters l) s ≡ lineReply l s
+line-text l s h n = ap (λ (b : Bool). replyOf b (bytesOf (characters l)) s) (ap (λ (b : Bool). b && arePairs (characters l)) (le-leb (length (characters l)) 1098 n ∙ sym (ap not h)))
+
 -- ---- the end of a line
 
-pub ended-is : (r : Replay) (a : Reply) (ts : List ℕ) → a ≡ replyOf (isRecord (r .line)) (bytesOf (characters (r .line))) (r .state) → ts ≡ counted (r .tallies) (a .number)
-    → record { replay = record { state = a .state; line = emptied (r .line); tallies = ts }; text = a .text; used = 0 } ≡ endedOf r
+pub ended-is : (r : Replay) (a : Reply) (f : Fed) → a ≡ lineReply (r .line) (r .state) → f ≡ fedBy (r .tallies) a → f ≡ endedOf r
 unfolding endedOf nextLine saidLine replyOf
-ended-is r a ts e k =
-    λ i. record { replay = record { state = e i .state; line = emptied (r .line); tallies = (k ∙ (λ j. counted (r .tallies) (e j .number))) i }; text = e i .text; used = 0 }
+ended-is r a f e g = g ∙ ap (fedBy (r .tallies)) e
 
 -- ---- that of the input
 
@@ -106,22 +105,20 @@ pub finish-none : (r : Replay) (t : Text) → isBegun (r .line) ≡ false → t 
 unfolding finished
 finish-none r t h e = rw h (λ i. record { replay = r; text = e i; used = 0 })
 
-pub begun-some : (l : Line) → 0 < l .len → isBegun l ≡ true
-begun-some l h = rw (lt-ltb 0 (l .len) h)
+-- ---- whether a line has begun
 
-pub begun-over : (l : Line) → l .over ≡ true → isBegun l ≡ true
-begun-over l h = rw h (or-true (ltb 0 (l .len)))
-  where
-    or-true : (b : Bool) → (b || true) ≡ true
-    or-true true = refl
-    or-true false = refl
+pub begun-some-of : (len : ℕ) (over : Bool) → 0 < len → (ltb 0 len || over) ≡ true
+begun-some-of len over h = rw (lt-ltb 0 len h)
 
-pub not-begun : (l : Line) → l .len ≤ 0 → l .over ≡ false → isBegun l ≡ false
-not-begun l h k = rw (le-ltb 0 (l .len) h, k)
+pub begun-by-over : (len : ℕ) (over : Bool) → len ≤ 0 → over ≡ (ltb 0 len || over)
+begun-by-over len over h = rw (le-ltb 0 len h)
+
+-- one that has not has no character
+pub not-begun : (l : Line) → isBegun l ≡ false → (l .len ≡ 0) × (l .over ≡ false)
+not-begun l h = let t = neither (ltb 0 (l .len)) (l .over) h in (let n : l .len ≤ 0 = ltb-false 0 (l .len) (t .0) in omega arith, t .1)
 
 -- ---- before its start
 
-pub fresh-is : (s : State) (ts : List ℕ) → s ≡ freshState true → ts ≡ replicate 12 0
-    → record { state = s; line = record { text = replicate 1098 0; len = 0; over = false }; tallies = ts } ≡ freshReplay
+pub fresh-is : (s : State) (l : Line) (ts : List ℕ) → s ≡ freshState true → l ≡ blank → ts ≡ replicate 12 0 → record { state = s; line = l; tallies = ts } ≡ freshReplay
 unfolding freshReplay
-fresh-is s ts e k = λ i. record { state = e i; line = record { text = replicate 1098 0; len = 0; over = false }; tallies = k i }
+fresh-is s l ts e h k = λ i. record { state = e i; line = h i; tallies = k i }

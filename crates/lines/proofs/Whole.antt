@@ -15,7 +15,7 @@ use Rattle.state.specs.State.{freshState}
 use Rattle.state.specs.declared.State.{State}
 use Rattle.lines.specs.Replies.{isRecordLine, lineNumber, lineState, lineText}
 use Rattle.lines.specs.Output.{linesFrom, linesOf, textFrom, numbersFrom, answersTo, countOf, IsOutput}
-use Rattle.lines.specs.Replay.{pushed, emptied, characters, isRecord, isBegun, textOf, freshReplay, saidNumber, saidLine, nextLine, withByte, after, said, endedOf, finished}
+use Rattle.lines.specs.Replay.{pushed, blank, characters, isRecord, isBegun, textOf, freshReplay, saidNumber, saidLine, nextLine, withByte, after, said, endedOf, finished}
 use Rattle.lines.specs.Parts.{replyOf}
 use Rattle.lines.specs.Whole.{written, piecesText, piecesReplay, joined, lastFed, OutputOfPieces}
 use Rattle.lines.specs.declared.Line.{Line}
@@ -27,7 +27,7 @@ use Rattle.lines.proofs.Newlines.{either}
 use Rattle.lines.proofs.Feeding.{withLine, byte-ends, byte-pushed}
 use Rattle.lines.proofs.Cuts.{nothing-said, nothing-carried, text-back, pieces-text, pieces-replay}
 use Rattle.lines.proofs.Texts.{finish-begun, finish-none}
-use Rattle.lines.proofs.Kept.{Kept, kept-none, kept-pushed, kept-begun, kept-reply}
+use Rattle.lines.proofs.Kept.{Kept, kept-blank, kept-pushed, kept-begun, kept-reply}
 use Rattle.lines.proofs.Tallied.{countedAll, tallied}
 
 -- ---- a line's end, where r keeps the characters of the line
@@ -109,7 +109,7 @@ next-tallies : (r : Replay) → nextLine r .tallies ≡ counted (r .tallies) (sa
 unfolding nextLine
 next-tallies r = refl
 
-next-line : (r : Replay) → nextLine r .line ≡ emptied (r .line)
+next-line : (r : Replay) → nextLine r .line ≡ blank
 unfolding nextLine
 next-line r = refl
 
@@ -175,13 +175,13 @@ comes-char r line b xs h c = record {
 }
 
 -- the next line is kept too
-kept-next : (r : Replay) (line : List ℕ) → Kept (r .line) line → Kept (nextLine r .line) []
-kept-next r line k = subst (λ (l : Line). Kept l []) (sym (next-line r)) (kept-none (r .line) (k .room))
+kept-next : (r : Replay) → Kept (nextLine r .line) []
+kept-next r = subst (λ (l : Line). Kept l []) (sym (next-line r)) kept-blank
 
 comes : (xs : List ℕ) (r : Replay) (line : List ℕ) → Kept (r .line) line → Comes r line xs
 comes [] r line k = ⊎-elim (λ (h : length line ≤ 0). comes-none r line k h) (λ (h : 0 < length line). comes-some r line k h) (le-or-lt (length line) 0)
 comes (b ∷ xs) r line k =
-    ⊎-elim (λ (h : eqb b 10 ≡ true). comes-end r line b xs k h (comes xs (nextLine r) [] (kept-next r line k)))
+    ⊎-elim (λ (h : eqb b 10 ≡ true). comes-end r line b xs k h (comes xs (nextLine r) [] (kept-next r)))
     (λ (h : eqb b 10 ≡ false). comes-char r line b xs h (comes xs (withLine r (pushed (r .line) b)) (line ++ (b ∷ [])) (kept-pushed (r .line) line b k)))
     (either (eqb b 10))
 
@@ -189,7 +189,7 @@ comes (b ∷ xs) r line k =
 
 kept-fresh : Kept (freshReplay .line) []
 unfolding freshReplay
-kept-fresh = kept-none (freshReplay .line) (length-replicate {A = ℕ} 1098 0)
+kept-fresh = kept-blank
 
 fresh-tallies : freshReplay .tallies ≡ replicate 12 0
 unfolding freshReplay

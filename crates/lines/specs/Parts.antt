@@ -4,10 +4,13 @@ use mathlib.Core.List.{List, [], _∷_}
 use Prim.Native.Nat.{ℕ, suc}
 use lib.Dec.{eqb}
 use lib.IntN.{ℤ}
-use Rattle.digits.specs.Digits.{sampleLine}
+use Rattle.digits.specs.Digits.{bytesOf, sampleLine}
+use Rattle.counts.specs.Counts.{counted}
 use Rattle.state.specs.declared.State.{State}
-use Rattle.lines.specs.Replies.{refusalLine, numberFor, stateFor, textFor}
-use Rattle.lines.specs.Replay.{textOf}
+use Rattle.lines.specs.Replies.{refusalLine, numberFor, stateFor, textFor, isRecordLine}
+use Rattle.lines.specs.Replay.{blank, characters, isRecord, textOf}
+use Rattle.lines.specs.declared.Fed.{Fed}
+use Rattle.lines.specs.declared.Line.{Line}
 use Rattle.lines.specs.declared.Reply.{Reply}
 
 -- the text of a number, or of the samples where it is 0
@@ -20,6 +23,22 @@ replyOf isRecord bytes s = record {
   state = stateFor isRecord bytes s;
   number = numberFor isRecord bytes s;
   text = textOf (textFor isRecord bytes s);
+}
+
+-- the answer to a line as it is kept
+abbrev pub lineReply : Line → State → Reply
+lineReply l s = replyOf (isRecord l) (bytesOf (characters l)) s
+
+-- the answer to a line's text
+abbrev pub textReply : List ℕ → State → Reply
+textReply text s = replyOf (isRecordLine text) (bytesOf text) s
+
+-- what is carried and said after an answer, from the tallies before it
+abbrev pub fedBy : List ℕ → Reply → Fed
+fedBy tallies a = record {
+  replay = record { state = a .state; line = blank; tallies = counted tallies (a .number) };
+  text = a .text;
+  used = 0;
 }
 
 -- the place of the first newline, or the length

@@ -27,9 +27,9 @@ unfoldable pub pushedAll : Line → List ℕ → Line
 pushedAll l [] = l
 pushedAll l (b ∷ xs) = pushedAll (pushed l b) xs
 
--- none is left of it
-abbrev pub emptied : Line → Line
-emptied l = record { text = l .text; len = 0; over = false }
+-- none of it yet
+abbrev pub blank : Line
+blank = record { text = replicate lineMax 0; len = 0; over = false }
 
 -- its characters
 abbrev pub characters : Line → List ℕ
@@ -48,7 +48,7 @@ isBegun l = ltb 0 (l .len) || l .over
 unfoldable pub freshReplay : Replay
 freshReplay = record {
   state = freshState true;
-  line = record { text = replicate lineMax 0; len = 0; over = false };
+  line = blank;
   tallies = replicate 12 0;
 }
 
@@ -63,7 +63,7 @@ module _ (r : Replay) where
   unfoldable pub nextLine : Replay
   nextLine = record {
     state = stateFor (isRecord (r .line)) (bytesOf (characters (r .line))) (r .state);
-    line = emptied (r .line);
+    line = blank;
     tallies = counted (r .tallies) saidNumber;
   }
 

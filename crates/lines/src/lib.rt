@@ -1,14 +1,13 @@
 // Lines of hexadecimal text to lines of samples, piece by piece: the program `frames` but for its calls to read and write.
 ghost use mathlib.Core.Path.{_≡_};
-ghost use mathlib.Core.Bool.{true, false};
+ghost use mathlib.Core.Bool.{true, false, _||_};
+ghost use lib.Dec.{ltb};
 ghost use mathlib.Core.List.{[]};
-ghost use Prim.Native.Nat.{_≤_, _<_};
-ghost use lib.ListN.{length, take};
-ghost use Rattle.digits.specs.Digits.{pairsOf, bytesOf, sampleLine};
+ghost use lib.ListN.{take};
+ghost use Rattle.digits.specs.Digits.{sampleLine};
 ghost use Rattle.lines.specs.Replies.{refusalLine};
-ghost use Rattle.lines.specs.Replay.{pushedAll, characters, isRecord, freshReplay, textOf, endedOf, fedOf, finished};
-ghost use Rattle.lines.specs.Parts.{answerLine, replyOf, newlineAt};
-use digits::Pairs;
+ghost use Rattle.lines.specs.Replay.{pushedAll, blank, freshReplay, textOf, fedOf, finished};
+ghost use Rattle.lines.specs.Parts.{answerLine, replyOf, lineReply, textReply, fedBy, newlineAt};
 use state::State;
 
 // A line that has not ended: `len` characters stand in `text`. `over` says that there were more.
@@ -51,6 +50,16 @@ fn no_text() -> Text
     Text {
         bytes: [0u8; 961],
         len: 0,
+    }
+}
+
+fn blank_line() -> Line
+    ensures { λ r. ⌜ r ≡ blank ⌝ }
+{
+    Line {
+        text: [0u8; 1098],
+        len: 0,
+        over: false,
     }
 }
 
@@ -116,16 +125,6 @@ fn append(line: Line, part: &[u8]) -> Line
     }
 }
 
-// The characters of a line as digit pairs.
-fn line_pairs(text: &[u8], len: usize) -> Pairs
-    ensures { λ r. ⌜ r ≡ pairsOf (take len (now (text .entry))) ⌝ }
-{
-    if len < text.len() {
-        return digits::digit_pairs(&text[..len]);
-    }
-    digits::digit_pairs(text)
-}
-
 // The text of a number, or of the samples where it is 0.
 fn answer_text(n: u8, samples: [i16; 240]) -> Text
     ensures { λ r. ⌜ r ≡ textOf (answerLine n samples) ⌝ }
@@ -175,14 +174,11 @@ fn no_record(given: State) -> Reply
     }
 }
 
-fn line_reply(given: State, line: Line) -> Reply
-    ensures { λ r. ⌜ r ≡ replyOf (isRecord line) (bytesOf (characters line)) given ⌝ }
+// That to the text of a line.
+fn text_reply(given: State, text: &[u8]) -> Reply
+    ensures { λ r. ⌜ r ≡ textReply (now (text .entry)) given ⌝ }
 {
-    let text = line.text;
-    let p = line_pairs(&text, line.len);
-    if line.over {
-        return no_record(given);
-    }
+    let p = digits::digit_pairs(text);
     if !p.are_pairs {
         return no_record(given);
     }
@@ -190,27 +186,60 @@ fn line_reply(given: State, line: Line) -> Reply
     record_reply(given, &bytes, p.count)
 }
 
-fn end_line(given: Replay) -> Fed
-    ensures { λ r. ⌜ r ≡ endedOf given ⌝ }
+// That to its first `len` characters.
+fn front_reply(given: State, text: &[u8], len: usize) -> Reply
+    ensures { λ r. ⌜ r ≡ textReply (take len (now (text .entry))) given ⌝ }
 {
-    let line = given.line;
+    if len < text.len() {
+        return text_reply(given, &text[..len]);
+    }
+    text_reply(given, text)
+}
+
+// That to a line as it is kept.
+fn line_reply(given: State, line: Line) -> Reply
+    ensures { λ r. ⌜ r ≡ lineReply line given ⌝ }
+{
+    if line.over {
+        return no_record(given);
+    }
     let text = line.text;
-    let state = given.state;
-    let tallies = given.tallies;
-    let a = line_reply(state, line);
-    let next = a.state;
-    let answer = a.text;
+    front_reply(given, &text, line.len)
+}
+
+fn is_begun(len: usize, over: bool) -> bool
+    ensures { λ r. ⌜ r ≡ (ltb 0 len || over) ⌝ }
+{
+    if len > 0 {
+        return true;
+    }
+    over
+}
+
+// That to a line with the characters `part` more. A line that stands whole in a piece is read there.
+fn part_reply(given: State, line: Line, part: &[u8]) -> Reply
+    ensures { λ r. ⌜ r ≡ lineReply (pushedAll line (now (part .entry))) given ⌝ }
+{
+    if is_begun(line.len, line.over) {
+        let longer = append(line, part);
+        return line_reply(given, longer);
+    }
+    text_reply(given, part)
+}
+
+// What follows from an answer.
+fn fed_by(tallies: [u64; 12], a: Reply) -> Fed
+    ensures { λ r. ⌜ r ≡ fedBy tallies a ⌝ }
+{
+    let state = a.state;
+    let text = a.text;
     Fed {
         replay: Replay {
-            state: next,
-            line: Line {
-                text: text,
-                len: 0,
-                over: false,
-            },
+            state: state,
+            line: blank_line(),
             tallies: counts::count(tallies, a.number),
         },
-        text: answer,
+        text: text,
         used: 0,
     }
 }
@@ -221,11 +250,7 @@ pub fn start() -> Replay
 {
     Replay {
         state: state::fresh(true),
-        line: Line {
-            text: [0u8; 1098],
-            len: 0,
-            over: false,
-        },
+        line: blank_line(),
         tallies: counts::no_tallies(),
     }
 }
@@ -234,18 +259,13 @@ pub fn start() -> Replay
 pub fn feed(given: Replay, input: &[u8]) -> Fed
     ensures { λ r. ⌜ r ≡ fedOf given (now (input .entry)) ⌝ }
 {
-    let end = newline(input);
-    let line = given.line;
-    let longer = append(line, &input[..end]);
     let state = given.state;
+    let line = given.line;
     let tallies = given.tallies;
-    let more = Replay {
-        state: state,
-        line: longer,
-        tallies: tallies,
-    };
+    let end = newline(input);
     if end < input.len() {
-        let f = end_line(more);
+        let a = part_reply(state, line, &input[..end]);
+        let f = fed_by(tallies, a);
         let replay = f.replay;
         let text = f.text;
         return Fed {
@@ -254,8 +274,13 @@ pub fn feed(given: Replay, input: &[u8]) -> Fed
             used: end + 1,
         };
     }
+    let longer = append(line, input);
     Fed {
-        replay: more,
+        replay: Replay {
+            state: state,
+            line: longer,
+            tallies: tallies,
+        },
         text: no_text(),
         used: end,
     }
@@ -266,11 +291,11 @@ pub fn finish(given: Replay) -> Fed
     ensures { λ r. ⌜ r ≡ finished given ⌝ }
 {
     let line = given.line;
-    if line.len > 0 {
-        return end_line(given);
-    }
-    if line.over {
-        return end_line(given);
+    if is_begun(line.len, line.over) {
+        let state = given.state;
+        let tallies = given.tallies;
+        let a = line_reply(state, line);
+        return fed_by(tallies, a);
     }
     Fed {
         replay: given,

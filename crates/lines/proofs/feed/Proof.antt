@@ -1,10 +1,11 @@
 use mathlib.Core.Path.{_≡_, sym, ap, _∙_}
-use Prim.Native.Nat.{ℕ, _+_}
+use Prim.Native.Nat.{ℕ, _+_, _≤_}
 use native.Mathlib.Omega.{arith}
-use lib.ListN.{take}
-use lib.Seq.{length-take-le}
-use Rattle.lines.specs.Replay.{pushedAll, fedOf}
-use Rattle.lines.specs.declared.Line.{Line}
+use lib.ListN.{length, take}
+use lib.Seq.{length-take-le, take-all}
+use Rattle.lines.specs.Replay.{pushedAll}
+use Rattle.lines.specs.Parts.{lineReply, newlineAt}
+use Rattle.lines.proofs.Texts.{ended-is}
 use Rattle.lines.proofs.Feeding.{withLine, longer, newline-inside, fed-ended, fed-going}
 use borrow.Author.Needs.{needs}
 use Rattle.lines.proofs.feed.Statement.{statement}
@@ -13,59 +14,65 @@ use Rattle.lines.proofs.feed.Tie as tie
 newline-requires : tie.Need-newline-requires
 newline-requires c κs = tt
 
-slice-aggregate-append : tie.Need-slice-aggregate-append
-slice-aggregate-append c =
+slice-aggregate-part-reply : tie.Need-slice-aggregate-part-reply
+slice-aggregate-part-reply c =
     let n = c .before .before in
-    let xs = n .before .before .args .input .now in
+    let xs = n .before .before .before .before .before .args .input .now in
     sym (length-take-le (n .newline .result) xs (omega (arith, n .newline .ensures, newline-inside xs)))
 
--- the line with the characters before the newline
-line-is : (c : tie.After-append) → c .append .result ≡ longer (c .before .before .before .before .before .args .given) (c .before .before .before .before .before .args .input .now) .line
-line-is c =
-    let n = c .before .before .before in
-    let a = n .before .before .args in
-    c .append .ensures ∙ ap (λ (k : ℕ). pushedAll (a .given .line) (take k (a .input .now))) (n .newline .ensures)
+part-reply-requires : tie.Need-part-reply-requires
+part-reply-requires c κs = tt
 
-append-requires : tie.Need-append-requires
-append-requires c κs = tt
-
-end-line-requires : tie.Need-end-line-requires
-end-line-requires c κs = tt
+fed-by-requires : tie.Need-fed-by-requires
+fed-by-requires c κs = tt
 
 add-t16 : tie.Need-add-t16
-add-t16 c = search needs
+add-t16 c =
+    let n = c .before .before .before .before .before .before in
+    let xs = n .before .before .before .before .before .args .input .now in
+    search (needs, newline-inside xs)
 
 returns : tie.Need-returns
 returns c =
     let f = c .before .before in
-    let p = f .before .before .before .before in
+    let p = f .before in
     let n = p .before .before .before in
-    let a = n .before .before .args in
+    let a = n .before .before .before .before .before .args in
     let e = n .newline .ensures in
-    (λ i. record { replay = f .end-line .result .replay; text = f .end-line .result .text; used = e i + 1 })
-    ∙ fed-ended (a .given) (a .input .now) _ (f .end-line .result) (omega (arith, e)) (ap (withLine (a .given)) (line-is p)) (f .end-line .ensures)
+    let r = longer (a .given) (a .input .now) in
+    let l : p .part-reply .result ≡ lineReply (r .line) (a .given .state) =
+        p .part-reply .ensures ∙ ap (λ (k : ℕ). lineReply (pushedAll (a .given .line) (take k (a .input .now))) (a .given .state)) e in
+    (λ i. record { replay = f .fed-by .result .replay; text = f .fed-by .result .text; used = e i + 1 })
+    ∙ fed-ended (a .given) (a .input .now) (f .fed-by .result) (omega (arith, e)) (ended-is r (p .part-reply .result) (f .fed-by .result) l (f .fed-by .ensures))
+
+append-requires : tie.Need-append-requires
+append-requires c κs = tt
 
 no-text-requires : tie.Need-no-text-requires
 no-text-requires c κs = tt
 
 returns-2 : tie.Need-returns-2
 returns-2 c =
-    let p = c .before .before .before .before in
-    let n = p .before .before .before in
-    let a = n .before .before .args in
+    let p = c .before in
+    let n = p .before .before in
+    let a = n .before .before .before .before .before .args in
     let e = n .newline .ensures in
+    let g : length (a .input .now) ≤ newlineAt (a .input .now) = omega (arith, e) in
+    let l : p .append .result ≡ longer (a .given) (a .input .now) .line =
+        p .append .ensures ∙ ap (pushedAll (a .given .line)) (sym (take-all (newlineAt (a .input .now)) (a .input .now) g)) in
     (λ i. record { replay = withLine (a .given) (p .append .result); text = c .no-text .result; used = e i })
-    ∙ fed-going (a .given) (a .input .now) (withLine (a .given) (p .append .result)) (c .no-text .result) (omega (arith, e)) (ap (withLine (a .given)) (line-is p)) (c .no-text .ensures)
+    ∙ fed-going (a .given) (a .input .now) (withLine (a .given) (p .append .result)) (c .no-text .result) g (ap (withLine (a .given)) l) (c .no-text .ensures)
 
 pub feed-spec : {M : Type 1} → statement M
 feed-spec =
     tie.close
     (tie.spec
     newline-requires
-    slice-aggregate-append
-    append-requires
-    end-line-requires
+    slice-aggregate-part-reply
+    part-reply-requires
+    fed-by-requires
     add-t16
     returns
+    append-requires
     no-text-requires
     returns-2)

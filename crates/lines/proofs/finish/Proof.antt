@@ -1,33 +1,41 @@
-use Rattle.lines.proofs.Texts.{finish-begun, finish-none, begun-some, begun-over, not-begun}
+use mathlib.Core.Path.{sym, _∙_}
+use Rattle.lines.proofs.Texts.{ended-is, finish-begun, finish-none}
 use borrow.Author.Needs.{needs}
 use Rattle.lines.proofs.finish.Statement.{statement}
 use Rattle.lines.proofs.finish.Tie as tie
 
-end-line-requires : tie.Need-end-line-requires
-end-line-requires c κs = tt
+is-begun-requires : tie.Need-is-begun-requires
+is-begun-requires c κs = tt
+
+line-reply-requires : tie.Need-line-reply-requires
+line-reply-requires c κs = tt
+
+fed-by-requires : tie.Need-fed-by-requires
+fed-by-requires c κs = tt
 
 returns : tie.Need-returns
 returns c =
-    let r = c .before .before .before .before .args .given in
-    finish-begun r (c .end-line .result) (begun-some (r .line) (c .before .if1 .taken)) (c .end-line .ensures)
-
-end-line-requires-2 : tie.Need-end-line-requires-2
-end-line-requires-2 c κs = tt
-
-returns-2 : tie.Need-returns-2
-returns-2 c =
-    let r = c .before .before .before .before .before .args .given in
-    finish-begun r (c .end-line2 .result) (begun-over (r .line) (c .before .if2 .taken)) (c .end-line2 .ensures)
+    let l = c .before in
+    let b = l .before .before .before in
+    let r = b .before .before .before .args .given in
+    finish-begun r (c .fed-by .result) (sym (b .before .is-begun .ensures) ∙ b .if1 .taken) (ended-is r (l .line-reply .result) (c .fed-by .result) (l .line-reply .ensures) (c .fed-by .ensures))
 
 no-text-requires : tie.Need-no-text-requires
 no-text-requires c κs = tt
 
-returns-3 : tie.Need-returns-3
-returns-3 c =
-    let r = c .before .before .before .before .before .args .given in
-    finish-none r (c .no-text .result) (not-begun (r .line) (c .before .before .if1 .left) (c .before .if2 .left)) (c .no-text .ensures)
+returns-2 : tie.Need-returns-2
+returns-2 c =
+    let b = c .before in
+    let r = b .before .before .before .args .given in
+    finish-none r (c .no-text .result) (sym (b .before .is-begun .ensures) ∙ b .if1 .left) (c .no-text .ensures)
 
 pub finish-spec : {M : Type 1} → statement M
 finish-spec =
     tie.close
-    (tie.spec end-line-requires returns end-line-requires-2 returns-2 no-text-requires returns-3)
+    (tie.spec
+    is-begun-requires
+    line-reply-requires
+    fed-by-requires
+    returns
+    no-text-requires
+    returns-2)

@@ -1,0 +1,17 @@
+use borrow.Author.Needs.{needs}
+use Rattle.lines.proofs.fed_by.Statement.{statement}
+use Rattle.lines.proofs.fed_by.Tie as tie
+
+blank-line-requires : tie.Need-blank-line-requires
+blank-line-requires c κs = tt
+
+count-requires : tie.Need-count-requires
+count-requires c κs = tt
+
+returns : tie.Need-returns
+returns c =
+    let a = c .before .before .before .before .args .a in
+    λ i. record { replay = record { state = a .state; line = c .before .blank-line .ensures i; tallies = c .count .ensures i }; text = a .text; used = 0 }
+
+pub fed-by-spec : {M : Type 1} → statement M
+fed-by-spec = tie.close (tie.spec blank-line-requires count-requires returns)
