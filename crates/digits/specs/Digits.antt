@@ -23,6 +23,10 @@ isDigit b = among 48 57 b || (among 65 70 b || among 97 102 b)
 unfoldable pub digitValue : ℕ → ℕ
 digitValue b = cond (among 48 57 b) (b - 48) (cond (among 65 70 b) (b - 55) (cond (among 97 102 b) (b - 87) 0))
 
+-- both in one number: the value, 16 where there is none
+abbrev pub digitCode : ℕ → ℕ
+digitCode b = cond (isDigit b) (digitValue b) 16
+
 -- the first n characters are digits
 unfoldable pub areDigits : List ℕ → ℕ → Bool
 areDigits text zero = true

@@ -1,8 +1,10 @@
 // Hexadecimal text: digit pairs to bytes, and samples to digits.
 ghost use mathlib.Core.Path.{_≡_};
 ghost use mathlib.Core.Bool.{_&&_};
-ghost use Prim.Native.Nat.{_≤_, _<_, _+_, _*_, _%_};
-ghost use Rattle.digits.specs.Digits.{among, isDigit, digitValue, pairsOf, image, glyph as glyphOf, sampleLine};
+ghost use Prim.Native.Nat.{_+_, _*_, _%_};
+ghost use lib.Dec.{ltb};
+ghost use Rattle.integers.specs.Base.{tabulate};
+ghost use Rattle.digits.specs.Digits.{digitCode, pairsOf, image, glyph as glyphOf, sampleLine};
 
 // A text read as digit pairs: whether it is that, and its bytes, `count` of them.
 pub struct Pairs {
@@ -11,59 +13,298 @@ pub struct Pairs {
     pub count: usize,
 }
 
-// b is a character of lo ..= hi.
-fn is_among(lo: u8, hi: u8, b: u8) -> bool
-    ensures { λ r. ⌜ r ≡ among lo hi b ⌝ }
+// The value of each character as a digit, 16 where it is none.
+const DIGIT_CODES: [u8; 256] = [
+    16,
+    16,
+    16,
+    16,
+    16,
+    16,
+    16,
+    16,
+    16,
+    16,
+    16,
+    16,
+    16,
+    16,
+    16,
+    16,
+    16,
+    16,
+    16,
+    16,
+    16,
+    16,
+    16,
+    16,
+    16,
+    16,
+    16,
+    16,
+    16,
+    16,
+    16,
+    16,
+    16,
+    16,
+    16,
+    16,
+    16,
+    16,
+    16,
+    16,
+    16,
+    16,
+    16,
+    16,
+    16,
+    16,
+    16,
+    16,
+    0,
+    1,
+    2,
+    3,
+    4,
+    5,
+    6,
+    7,
+    8,
+    9,
+    16,
+    16,
+    16,
+    16,
+    16,
+    16,
+    16,
+    10,
+    11,
+    12,
+    13,
+    14,
+    15,
+    16,
+    16,
+    16,
+    16,
+    16,
+    16,
+    16,
+    16,
+    16,
+    16,
+    16,
+    16,
+    16,
+    16,
+    16,
+    16,
+    16,
+    16,
+    16,
+    16,
+    16,
+    16,
+    16,
+    16,
+    16,
+    16,
+    10,
+    11,
+    12,
+    13,
+    14,
+    15,
+    16,
+    16,
+    16,
+    16,
+    16,
+    16,
+    16,
+    16,
+    16,
+    16,
+    16,
+    16,
+    16,
+    16,
+    16,
+    16,
+    16,
+    16,
+    16,
+    16,
+    16,
+    16,
+    16,
+    16,
+    16,
+    16,
+    16,
+    16,
+    16,
+    16,
+    16,
+    16,
+    16,
+    16,
+    16,
+    16,
+    16,
+    16,
+    16,
+    16,
+    16,
+    16,
+    16,
+    16,
+    16,
+    16,
+    16,
+    16,
+    16,
+    16,
+    16,
+    16,
+    16,
+    16,
+    16,
+    16,
+    16,
+    16,
+    16,
+    16,
+    16,
+    16,
+    16,
+    16,
+    16,
+    16,
+    16,
+    16,
+    16,
+    16,
+    16,
+    16,
+    16,
+    16,
+    16,
+    16,
+    16,
+    16,
+    16,
+    16,
+    16,
+    16,
+    16,
+    16,
+    16,
+    16,
+    16,
+    16,
+    16,
+    16,
+    16,
+    16,
+    16,
+    16,
+    16,
+    16,
+    16,
+    16,
+    16,
+    16,
+    16,
+    16,
+    16,
+    16,
+    16,
+    16,
+    16,
+    16,
+    16,
+    16,
+    16,
+    16,
+    16,
+    16,
+    16,
+    16,
+    16,
+    16,
+    16,
+    16,
+    16,
+    16,
+    16,
+    16,
+    16,
+    16,
+    16,
+    16,
+    16,
+    16,
+    16,
+    16,
+    16,
+    16,
+    16,
+    16,
+    16,
+    16,
+    16,
+    16,
+    16,
+    16,
+    16,
+    16,
+    16,
+    16,
+    16,
+    16,
+    16,
+    16,
+    16,
+    16,
+    16,
+];
+
+// All of them at once: a constant table is made anew where it is read.
+fn digit_codes() -> [u8; 256]
+    ensures { λ r. ⌜ r ≡ tabulate digitCode 256 ⌝ }
 {
-    lo <= b && b <= hi
+    DIGIT_CODES
 }
 
-fn is_digit(b: u8) -> bool
-    ensures { λ r. ⌜ r ≡ isDigit b ⌝ }
+fn digit_code(codes: &[u8; 256], b: u8) -> u8
+    requires { ⌜ now codes ≡ tabulate digitCode 256 ⌝ }
+    ensures { λ r. ⌜ r ≡ digitCode b ⌝ }
 {
-    if is_among(48, 57, b) {
-        return true;
-    }
-    if is_among(65, 70, b) {
-        return true;
-    }
-    is_among(97, 102, b)
+    codes[b as usize]
 }
 
-// The second promise is for the byte of a pair.
-fn digit_value(b: u8) -> u8
-    ensures { λ r. ⌜ r ≡ digitValue b ⌝ }
-    ensures { λ r. ⌜ r ≤ 15 ⌝ }
-{
-    if is_among(48, 57, b) {
-        return b - 48;
-    }
-    if is_among(65, 70, b) {
-        return b - 55;
-    }
-    if is_among(97, 102, b) {
-        return b - 87;
-    }
-    0
-}
-
+// The byte of two digits by their codes.
 fn pair_value(a: u8, b: u8) -> u8
-    ensures { λ r. ⌜ r ≡ 16 * digitValue a + digitValue b ⌝ }
+    ensures { λ r. ⌜ r ≡ 16 * (a % 16) + b % 16 ⌝ }
 {
-    16 * digit_value(a) + digit_value(b)
+    16 * (a % 16) + b % 16
 }
 
-// Two characters more are digits too.
+// Two characters more are digits too, by their codes.
 fn still_digits(so_far: bool, a: u8, b: u8) -> bool
-    ensures { λ r. ⌜ r ≡ ((«so_far» && isDigit a) && isDigit b) ⌝ }
+    ensures { λ r. ⌜ r ≡ ((«so_far» && ltb a 16) && ltb b 16) ⌝ }
 {
     if !so_far {
         return false;
     }
-    if !is_digit(a) {
+    if a > 15 {
         return false;
     }
-    is_digit(b)
+    b < 16
 }
 
 // The bytes of a text, in either letter case.
@@ -78,12 +319,13 @@ pub fn digit_pairs(text: &[u8]) -> Pairs
             count: 0,
         };
     }
+    let codes = digit_codes();
     let count = text.len() / 2;
     let mut are_pairs = text.len() % 2 == 0;
     let mut i: usize = 0;
     while i < count {
-        let a = text[2 * i];
-        let b = text[2 * i + 1];
+        let a = digit_code(&codes, text[2 * i]);
+        let b = digit_code(&codes, text[2 * i + 1]);
         bytes[i] = pair_value(a, b);
         are_pairs = still_digits(are_pairs, a, b);
         i += 1;

@@ -2,7 +2,6 @@
 use mathlib.Core.Path.{_≡_, refl, sym, ap, _∙_}
 use mathlib.Core.Bool.{Bool, true, false, cond}
 use mathlib.Core.List.{List, [], _∷_}
-use mathlib.Core.Logic.{_⊎_, inl, inr}
 use Prim.Native.Nat.{ℕ, suc, _+_, _≤_, _<_}
 use native.Mathlib.Numerals.{add-one}
 use native.Mathlib.Omega.{arith}
@@ -14,12 +13,6 @@ use Rattle.tables.specs.Constants.{lineMax}
 use Rattle.lines.specs.Parts.{newlineAt}
 use Rattle.lines.specs.Replay.{pushed, pushedAll}
 use Rattle.lines.specs.declared.Line.{Line}
-
--- ---- a test holds or fails
-
-pub either : (t : Bool) → (t ≡ true) ⊎ (t ≡ false)
-either true = inl refl
-either false = inr refl
 
 -- ---- the first newline
 

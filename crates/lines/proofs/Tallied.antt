@@ -18,7 +18,7 @@ use Rattle.state.specs.declared.State.{State}
 use Rattle.lines.specs.Replies.{silence, numberFor, lineNumber, lineState, isRecordLine}
 use Rattle.lines.specs.Output.{numbersFrom}
 use Rattle.digits.specs.Digits.{bytesOf}
-use Rattle.lines.proofs.Newlines.{either}
+use Rattle.digits.proofs.Characters.{either}
 
 -- the tallies after each number
 unfoldable pub countedAll : List ℕ → List ℕ → List ℕ

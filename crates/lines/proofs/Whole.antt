@@ -23,7 +23,7 @@ use Rattle.lines.specs.declared.Replay.{Replay}
 use Rattle.lines.specs.declared.Reply.{Reply}
 use Rattle.lines.specs.declared.Text.{Text}
 use Rattle.lines.specs.declared.Fed.{Fed}
-use Rattle.lines.proofs.Newlines.{either}
+use Rattle.digits.proofs.Characters.{either}
 use Rattle.lines.proofs.Feeding.{withLine, byte-ends, byte-pushed}
 use Rattle.lines.proofs.Cuts.{nothing-said, nothing-carried, text-back, pieces-text, pieces-replay}
 use Rattle.lines.proofs.Texts.{finish-begun, finish-none}

@@ -1,38 +1,51 @@
-use mathlib.Core.Path.{_≡_, refl}
-use Prim.Native.Nat.{_-_}
+use mathlib.Core.Path.{_≡_, refl, ap, _∙_}
+use mathlib.Core.Bool.{_&&_}
+use Prim.Native.Nat.{ℕ, _+_, _-_, _*_, _%_}
 use native.Mathlib.Omega.{arith}
 use borrow.Author.Needs.{needs}
-use lib.ListN.{length}
+use lib.Dec.{ltb}
+use lib.ListN.{length, getD}
+use Rattle.digits.specs.Digits.{digitCode}
+use Rattle.digits.proofs.Characters.{code-digit, code-value}
 use Rattle.digits.proofs.Reading.{Reading, reading-start, reading-next, reading-end, too-long}
 use Rattle.digits.proofs.digit_pairs.Statement.{statement}
 use Rattle.digits.proofs.digit_pairs.Tie as tie
 
 abbrev Inv-loop : tie.InvT-loop
-Inv-loop text bytes₀ count are-pairs₀ i₀ bytes are-pairs i = Reading text bytes are-pairs i
+Inv-loop text bytes₀ codes count are-pairs₀ i₀ bytes are-pairs i = Reading text bytes are-pairs i
 
 abbrev μ-loop : tie.MeasureT-loop
-μ-loop text bytes₀ count are-pairs₀ i₀ bytes are-pairs i = length text - i
+μ-loop text bytes₀ codes count are-pairs₀ i₀ bytes are-pairs i = length text - i
 
 returns : tie.Need-returns Inv-loop μ-loop
 returns c = too-long (c .before .before .args .text .now) (omega arith)
 
+digit-codes-requires : tie.Need-digit-codes-requires Inv-loop μ-loop
+digit-codes-requires c κs = tt
+
 loop-holds : tie.Need-loop-holds Inv-loop μ-loop
-loop-holds c = reading-start (c .before .before .args .text .now) _ (omega arith) refl
+loop-holds c = reading-start (c .before .before .before .args .text .now) _ (omega arith) refl
 
-mul-a : tie.Need-mul-a Inv-loop μ-loop
-mul-a c = search needs
+mul-digit-code : tie.Need-mul-digit-code Inv-loop μ-loop
+mul-digit-code c = search needs
 
-shared-slice-read-a : tie.Need-shared-slice-read-a Inv-loop μ-loop
-shared-slice-read-a c = search needs
+shared-slice-read-digit-code : tie.Need-shared-slice-read-digit-code Inv-loop μ-loop
+shared-slice-read-digit-code c = search needs
 
-mul-b : tie.Need-mul-b Inv-loop μ-loop
-mul-b c = search needs
+digit-code-requires : tie.Need-digit-code-requires Inv-loop μ-loop
+digit-code-requires c κs = c .before .before .before .before .digit-codes .ensures
 
-add-b : tie.Need-add-b Inv-loop μ-loop
-add-b c = search needs
+mul-digit-code-2 : tie.Need-mul-digit-code-2 Inv-loop μ-loop
+mul-digit-code-2 c = search needs
 
-shared-slice-read-b : tie.Need-shared-slice-read-b Inv-loop μ-loop
-shared-slice-read-b c = search needs
+add-digit-code : tie.Need-add-digit-code Inv-loop μ-loop
+add-digit-code c = search needs
+
+shared-slice-read-digit-code-2 : tie.Need-shared-slice-read-digit-code-2 Inv-loop μ-loop
+shared-slice-read-digit-code-2 c = search needs
+
+digit-code-requires-2 : tie.Need-digit-code-requires-2 Inv-loop μ-loop
+digit-code-requires-2 c κs = c .before .before .before .before .before .before .before .digit-codes .ensures
 
 pair-value-requires : tie.Need-pair-value-requires Inv-loop μ-loop
 pair-value-requires c κs = tt
@@ -51,14 +64,22 @@ loop-less c = search needs
 
 loop-again : tie.Need-loop-again Inv-loop μ-loop
 loop-again c =
-    let l = c .before .before .before .before .before in
-    reading-next (l .before .before .before .args .text .now) (l .loop .bytes) (l .loop .are-pairs) (c .still-digits .result) (c .before .pair-value .result) (l .loop .i)
-    (l .loop .inv) (omega arith) (c .before .pair-value .ensures) (c .still-digits .ensures)
+    let p = c .before in
+    let y = p .before in
+    let x = y .before .before .before in
+    let l = x .before .before .before .before in
+    let xs = l .before .before .before .before .args .text .now in
+    let i = l .loop .i in
+    let a = x .digit-code .ensures in
+    let b = y .digit-code2 .ensures in
+    let v = p .pair-value .ensures ∙ (λ k. 16 * ((ap (λ (n : ℕ). n % 16) a ∙ code-value (getD xs (2 * i) 0)) k) + (ap (λ (n : ℕ). n % 16) b ∙ code-value (getD xs (2 * i + 1) 0)) k) in
+    let d = c .still-digits .ensures ∙ (λ k. (l .loop .are-pairs && (ap (λ (n : ℕ). ltb n 16) a ∙ code-digit (getD xs (2 * i) 0)) k) && (ap (λ (n : ℕ). ltb n 16) b ∙ code-digit (getD xs (2 * i + 1) 0)) k) in
+    reading-next xs (l .loop .bytes) (l .loop .are-pairs) (c .still-digits .result) (p .pair-value .result) i (l .loop .inv) (omega arith) v d
 
 returns-2 : tie.Need-returns-2 Inv-loop μ-loop
 returns-2 c =
     let l = c .before in
-    reading-end (l .before .before .before .args .text .now) (l .loop .bytes) (l .loop .are-pairs) (l .loop .i) (l .loop .inv) (omega arith)
+    reading-end (l .before .before .before .before .args .text .now) (l .loop .bytes) (l .loop .are-pairs) (l .loop .i) (l .loop .inv) (omega arith)
 
 pub digit-pairs-spec : {M : Type 1} → statement M
 digit-pairs-spec =
@@ -67,12 +88,15 @@ digit-pairs-spec =
     Inv-loop
     μ-loop
     returns
+    digit-codes-requires
     loop-holds
-    mul-a
-    shared-slice-read-a
-    mul-b
-    add-b
-    shared-slice-read-b
+    mul-digit-code
+    shared-slice-read-digit-code
+    digit-code-requires
+    mul-digit-code-2
+    add-digit-code
+    shared-slice-read-digit-code-2
+    digit-code-requires-2
     pair-value-requires
     array-write-bytes
     still-digits-requires

@@ -41,7 +41,7 @@ returns c =
     let e = n .newline .ensures in
     let r = longer (a .given) (a .input .now) in
     let l : p .part-reply .result ≡ lineReply (r .line) (a .given .state) =
-        p .part-reply .ensures ∙ ap (λ (k : ℕ). lineReply (pushedAll (a .given .line) (take k (a .input .now))) (a .given .state)) e in
+    p .part-reply .ensures ∙ ap (λ (k : ℕ). lineReply (pushedAll (a .given .line) (take k (a .input .now))) (a .given .state)) e in
     (λ i. record { replay = f .fed-by .result .replay; text = f .fed-by .result .text; used = e i + 1 })
     ∙ fed-ended (a .given) (a .input .now) (f .fed-by .result) (omega (arith, e)) (ended-is r (p .part-reply .result) (f .fed-by .result) l (f .fed-by .ensures))
 
@@ -59,7 +59,7 @@ returns-2 c =
     let e = n .newline .ensures in
     let g : length (a .input .now) ≤ newlineAt (a .input .now) = omega (arith, e) in
     let l : p .append .result ≡ longer (a .given) (a .input .now) .line =
-        p .append .ensures ∙ ap (pushedAll (a .given .line)) (sym (take-all (newlineAt (a .input .now)) (a .input .now) g)) in
+    p .append .ensures ∙ ap (pushedAll (a .given .line)) (sym (take-all (newlineAt (a .input .now)) (a .input .now) g)) in
     (λ i. record { replay = withLine (a .given) (p .append .result); text = c .no-text .result; used = e i })
     ∙ fed-going (a .given) (a .input .now) (withLine (a .given) (p .append .result)) (c .no-text .result) g (ap (withLine (a .given)) l) (c .no-text .ensures)
 
