@@ -31,7 +31,7 @@ up-nonneg z h = natural z (omega line) .2
 -- ---- sizes
 
 -- the entries that an LSP is between
-index : (f : ℤ) → SFits w16 f → up f / 128 ≤ 255
+pub index : (f : ℤ) → SFits w16 f → up f / 128 ≤ 255
 index f h = omega (arith, line-fits f h)
 
 next-within : (i : ℕ) → i ≤ 255 → Within 201 (entry cosines (i + 1) -ℤ entry cosines i)

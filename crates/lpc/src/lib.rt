@@ -2,6 +2,7 @@
 ghost use mathlib.Core.Path.{_≡_};
 ghost use Prim.Native.Nat.{_<_, _^_};
 ghost use Rattle.integers.specs.Base.{entry, tabulate, up, Within, AllWithin};
+ghost use Rattle.tables.specs.Tables.{cosines};
 ghost use Rattle.lpc.specs.Lpc.{cosine, delayed, factorTerm, timesFactor, polynomial, roundedSum, coefficients, frameCoefficients};
 
 // The place of an LSP in the table, in 128ths of its steps. Negative LSPs occur: stabilising holds gaps, not places.
@@ -11,18 +12,27 @@ fn table_place(freq: i16) -> usize
     if freq < 0 { 0 } else { freq as usize }
 }
 
-pub fn cos_q14(freq: i16) -> i16
+// The cosine of an LSP. An LSP of 16 bits is at most at entry 255, so that there is a next one.
+fn cos_at(table: &[i16; 512], freq: i16) -> i16
+    requires { ⌜ now table ≡ cosines ⌝ }
     ensures { λ r. ⌜ r ≡ cosine freq ⌝ }
 {
     let place = table_place(freq);
     let idx = place / 128;
     let frac = (place % 128) as i16;
-    let base = tables::lsp_cosine_lookup(idx);
-    let next = tables::lsp_cosine_lookup(idx + 1);
+    let base = table[idx];
+    let next = table[idx + 1];
     basicop::add(
         base,
         basicop::mult(basicop::sub(next, base), basicop::shl(frac, 8)),
     )
+}
+
+pub fn cos_q14(freq: i16) -> i16
+    ensures { λ r. ⌜ r ≡ cosine freq ⌝ }
+{
+    let table = tables::lsp_cosines();
+    cos_at(&table, freq)
 }
 
 // The coefficient d places before i, 0 before the first.
@@ -59,7 +69,8 @@ fn times_factor(p: [i64; 11], c: i16) -> [i64; 11]
 }
 
 // The product of the five factors of every second LSP.
-fn expanded(lsp: [i16; 10], first: usize) -> [i64; 11]
+fn expanded(table: &[i16; 512], lsp: [i16; 10], first: usize) -> [i64; 11]
+    requires { ⌜ now table ≡ cosines ⌝ }
     requires { ⌜ first < 2 ⌝ }
     ensures { λ r. ⌜ r ≡ tabulate (polynomial lsp first) 11 ⌝ }
 {
@@ -67,7 +78,7 @@ fn expanded(lsp: [i16; 10], first: usize) -> [i64; 11]
     p[0] = tables::LPC_ONE_Q24;
     let mut k: usize = 0;
     while k < 5 {
-        let c = cos_q14(lsp[2 * k + first]);
+        let c = cos_at(table, lsp[2 * k + first]);
         let q = times_factor(p, c);
         p = q;
         k += 1;
@@ -87,11 +98,13 @@ fn rounded_q13(p1: i64, p0: i64, q1: i64, q0: i64) -> i16
     basicop::saturate(((1024 - (sum >> 1)) >> 11) as i32)
 }
 
-pub fn lsp_to_lpc_q13(lsp: [i16; 10]) -> [i16; 10]
+// A set, from a table that is made once for all of a frame's.
+fn lpc_of(table: &[i16; 512], lsp: [i16; 10]) -> [i16; 10]
+    requires { ⌜ now table ≡ cosines ⌝ }
     ensures { λ r. ⌜ r ≡ coefficients lsp ⌝ }
 {
-    let pz = expanded(lsp, 0);
-    let qz = expanded(lsp, 1);
+    let pz = expanded(table, lsp, 0);
+    let qz = expanded(table, lsp, 1);
     let mut a = [0i16; 10];
     let mut j: usize = 0;
     while j < 10 {
@@ -101,14 +114,22 @@ pub fn lsp_to_lpc_q13(lsp: [i16; 10]) -> [i16; 10]
     a
 }
 
+pub fn lsp_to_lpc_q13(lsp: [i16; 10]) -> [i16; 10]
+    ensures { λ r. ⌜ r ≡ coefficients lsp ⌝ }
+{
+    let table = tables::lsp_cosines();
+    lpc_of(&table, lsp)
+}
+
 pub fn frame_lpc_q13(prev: [i16; 10], cur: [i16; 10]) -> [[i16; 10]; 4]
     ensures { λ r. ⌜ r ≡ frameCoefficients prev cur ⌝ }
 {
+    let table = tables::lsp_cosines();
     let mut out = [[0i16; 10]; 4];
     let mut k: usize = 0;
     while k < 4 {
         let lsp = lsp::lsp_interpolate(k, prev, cur);
-        let set = lsp_to_lpc_q13(lsp);
+        let set = lpc_of(&table, lsp);
         out[k] = set;
         k += 1;
     }

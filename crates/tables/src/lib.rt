@@ -3,7 +3,7 @@
 mod spec_tables;
 
 pub use spec_tables::fixed_codebook_gain;
-pub use spec_tables::lsp_cosine_lookup;
+pub use spec_tables::lsp_cosines;
 pub use spec_tables::lsp_dc;
 pub use spec_tables::mpmlq_weights;
 pub use spec_tables::postfilter_pole;

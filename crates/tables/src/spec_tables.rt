@@ -3,7 +3,6 @@
 ghost use mathlib.Core.Path.{_≡_};
 ghost use lib.IntN.{pos};
 ghost use lib.ListN.{getD};
-ghost use Rattle.integers.specs.Base.{entry};
 ghost use Rattle.tables.specs.Tables.{cosines, meanLsps, gains, weights, postfilterZeros, postfilterPoles};
 
 // One period of the cosine, in 16384ths (§2.5; used in §2.7).
@@ -764,11 +763,11 @@ const POSTFILTER_POLE_Q15: [i16; 10] = [
     1845,
 ];
 
-// The cosine at i; 0 past the table's end.
-pub fn lsp_cosine_lookup(i: usize) -> i16
-    ensures { λ r. ⌜ r ≡ entry cosines i ⌝ }
+// All of them at once: a constant table is made anew where it is read, and a frame reads eighty cosines.
+pub fn lsp_cosines() -> [i16; 512]
+    ensures { λ r. ⌜ r ≡ cosines ⌝ }
 {
-    if i < 512 { LSP_COSINE_LOOKUP_Q15[i] } else { 0 }
+    LSP_COSINE_LOOKUP_Q15
 }
 
 pub fn lsp_dc() -> [i16; 10]
@@ -789,7 +788,7 @@ pub fn fixed_codebook_gain(index: u8) -> i16
     }
 }
 
-// All of them at once: a constant table is made anew where it is read, and a walk reads up to thirty weights.
+// All of them at once, as the cosines: a walk reads up to thirty weights.
 pub fn mpmlq_weights() -> [u32; 180]
     ensures { λ r. ⌜ r ≡ weights ⌝ }
 {

@@ -10,37 +10,37 @@ use Rattle.lpc.proofs.expanded.Statement.{statement}
 use Rattle.lpc.proofs.expanded.Tie as tie
 
 abbrev Inv-loop : tie.InvT-loop
-Inv-loop first lsp p₀ k₀ p k = (k ≤ 5) × (p ≡ tabulate (product (factorCosine lsp first) k) 11)
+Inv-loop table first lsp p₀ k₀ p k = (k ≤ 5) × (p ≡ tabulate (product (factorCosine lsp first) k) 11)
 
 abbrev μ-loop : tie.MeasureT-loop
-μ-loop first lsp p₀ k₀ p k = 5 - k
+μ-loop table first lsp p₀ k₀ p k = 5 - k
 
 array-set-of-p : tie.Need-array-set-of-p Inv-loop μ-loop
 array-set-of-p c = omega arith
 
 loop-holds : tie.Need-loop-holds Inv-loop μ-loop
-loop-holds c = (omega arith, product-zero (factorCosine (c .args .t1) (c .args .first)))
+loop-holds c = (omega arith, product-zero (factorCosine (c .args .t2) (c .args .first)))
 
-mul-cos-q14 : tie.Need-mul-cos-q14 Inv-loop μ-loop
-mul-cos-q14 c = omega arith
+mul-cos-at : tie.Need-mul-cos-at Inv-loop μ-loop
+mul-cos-at c = omega arith
 
-add-cos-q14 : tie.Need-add-cos-q14 Inv-loop μ-loop
-add-cos-q14 c = omega arith
+add-cos-at : tie.Need-add-cos-at Inv-loop μ-loop
+add-cos-at c = omega arith
 
-mul-cos-q14-2 : tie.Need-mul-cos-q14-2 Inv-loop μ-loop
-mul-cos-q14-2 c = omega arith
+mul-cos-at-2 : tie.Need-mul-cos-at-2 Inv-loop μ-loop
+mul-cos-at-2 c = omega arith
 
-array-copy-out-cos-q14 : tie.Need-array-copy-out-cos-q14 Inv-loop μ-loop
-array-copy-out-cos-q14 c = omega arith
+array-copy-out-cos-at : tie.Need-array-copy-out-cos-at Inv-loop μ-loop
+array-copy-out-cos-at c = omega arith
 
-cos-q14-requires : tie.Need-cos-q14-requires Inv-loop μ-loop
-cos-q14-requires c κs = tt
+cos-at-requires : tie.Need-cos-at-requires Inv-loop μ-loop
+cos-at-requires c κs = c .before .before .before .pre .0
 
 times-factor-requires : tie.Need-times-factor-requires Inv-loop μ-loop
 times-factor-requires c κs =
     let l = c .before .before .before in
     let s = l .before in
-    rw (l .loop .inv .1) (polynomial-within (s .args .t1) (all-fit 10 (s .good .0)) (s .args .first) (l .loop .k) (omega arith))
+    rw (l .loop .inv .1) (polynomial-within (s .args .t2) (all-fit 10 (s .good .1 .0)) (s .args .first) (l .loop .k) (omega arith))
 
 add-k : tie.Need-add-k Inv-loop μ-loop
 add-k c = omega arith
@@ -53,14 +53,14 @@ loop-again c =
     let l = c .before .before .before .before in
     let a = l .before .args in
     let k = l .loop .k in
-    let f = entry (a .t1) (2 * k + a .first) in
-    let e = back w16 (c .before .cos-q14 .ok) (c .before .cos-q14 .ensures ∙ ap cosine (read-back w16 f (c .before .before .cos-q14-arg .given))) in
-    (omega arith, c .times-factor .ensures ∙ (λ i. tabulate (timesFactor (entry (l .loop .inv .1 i)) (e i)) 11) ∙ product-step (factorCosine (a .t1) (a .first)) k 11)
+    let f = entry (a .t2) (2 * k + a .first) in
+    let e = back w16 (c .before .cos-at .ok) (c .before .cos-at .ensures ∙ ap cosine (read-back w16 f (c .before .before .cos-at-arg .given))) in
+    (omega arith, c .times-factor .ensures ∙ (λ i. tabulate (timesFactor (entry (l .loop .inv .1 i)) (e i)) 11) ∙ product-step (factorCosine (a .t2) (a .first)) k 11)
 
 returns : tie.Need-returns Inv-loop μ-loop
 returns c =
     let l = c .before in
-    let r = factorCosine (l .before .args .t1) (l .before .args .first) in
+    let r = factorCosine (l .before .args .t2) (l .before .args .first) in
     l .loop .inv .1 ∙ ap (λ (k : ℕ). tabulate (product r k) 11) (omega arith)
 
 pub expanded-spec : {M : Type 1} → statement M
@@ -71,11 +71,11 @@ expanded-spec =
     μ-loop
     array-set-of-p
     loop-holds
-    mul-cos-q14
-    add-cos-q14
-    mul-cos-q14-2
-    array-copy-out-cos-q14
-    cos-q14-requires
+    mul-cos-at
+    add-cos-at
+    mul-cos-at-2
+    array-copy-out-cos-at
+    cos-at-requires
     times-factor-requires
     add-k
     loop-less

@@ -9,10 +9,13 @@ use Rattle.lpc.proofs.frame_lpc_q13.Statement.{statement}
 use Rattle.lpc.proofs.frame_lpc_q13.Tie as tie
 
 abbrev Inv-loop : tie.InvT-loop
-Inv-loop prev cur out₀ k₀ out k = Fills (λ n. coefficients (interpolated n prev cur)) 4 out k
+Inv-loop prev cur table out₀ k₀ out k = Fills (λ n. coefficients (interpolated n prev cur)) 4 out k
 
 abbrev μ-loop : tie.MeasureT-loop
-μ-loop prev cur out₀ k₀ out k = 4 - k
+μ-loop prev cur table out₀ k₀ out k = 4 - k
+
+lsp-cosines-requires : tie.Need-lsp-cosines-requires Inv-loop μ-loop
+lsp-cosines-requires c κs = tt
 
 loop-holds : tie.Need-loop-holds Inv-loop μ-loop
 loop-holds c = fills-start refl
@@ -20,8 +23,8 @@ loop-holds c = fills-start refl
 lsp-interpolate-requires : tie.Need-lsp-interpolate-requires Inv-loop μ-loop
 lsp-interpolate-requires c κs = tt
 
-lsp-to-lpc-q13-requires : tie.Need-lsp-to-lpc-q13-requires Inv-loop μ-loop
-lsp-to-lpc-q13-requires c κs = tt
+lpc-of-requires : tie.Need-lpc-of-requires Inv-loop μ-loop
+lpc-of-requires c κs = c .before .before .before .before .lsp-cosines .ensures
 
 mul-out : tie.Need-mul-out Inv-loop μ-loop
 mul-out c = omega arith
@@ -37,8 +40,8 @@ loop-less c = omega arith
 
 loop-again : tie.Need-loop-again Inv-loop μ-loop
 loop-again c =
-    let l = c .before .before .before in
-    fills-next (l .loop .inv) (omega arith) (c .lsp-to-lpc-q13 .ensures ∙ ap coefficients (c .before .lsp-interpolate .ensures))
+    let l = c .before .before .before .before in
+    fills-next (l .loop .inv) (omega arith) (c .lpc-of .ensures ∙ ap coefficients (c .before .before .lsp-interpolate .ensures))
 
 returns : tie.Need-returns Inv-loop μ-loop
 returns c = fills-end (c .before .loop .inv) (omega arith)
@@ -49,9 +52,10 @@ frame-lpc-q13-spec =
     (tie.spec
     Inv-loop
     μ-loop
+    lsp-cosines-requires
     loop-holds
     lsp-interpolate-requires
-    lsp-to-lpc-q13-requires
+    lpc-of-requires
     mul-out
     array-set-from-out
     add-k

@@ -9,20 +9,20 @@ use Rattle.integers.specs.Expression.{is-mag, within-is}
 use Rattle.integers.specs.Fill.{fills-start, fills-next, fills-end}
 use Rattle.lpc.specs.Lpc.{roundedSum}
 use Rattle.lpc.proofs.Products.{polynomial-within, summed, summed-coefficients}
-use Rattle.lpc.proofs.lsp_to_lpc_q13.Statement.{statement}
-use Rattle.lpc.proofs.lsp_to_lpc_q13.Tie as tie
+use Rattle.lpc.proofs.lpc_of.Statement.{statement}
+use Rattle.lpc.proofs.lpc_of.Tie as tie
 
 abbrev Inv-loop : tie.InvT-loop
-Inv-loop pz qz a₀ j₀ a j = Fills (summed pz qz) 10 a j
+Inv-loop table pz qz a₀ j₀ a j = Fills (summed pz qz) 10 a j
 
 abbrev μ-loop : tie.MeasureT-loop
-μ-loop pz qz a₀ j₀ a j = 10 - j
+μ-loop table pz qz a₀ j₀ a j = 10 - j
 
 expanded-requires : tie.Need-expanded-requires Inv-loop μ-loop
-expanded-requires c κs = omega arith
+expanded-requires c κs = (c .pre, omega arith)
 
 expanded-requires-2 : tie.Need-expanded-requires-2 Inv-loop μ-loop
-expanded-requires-2 c κs = omega arith
+expanded-requires-2 c κs = (c .before .pre, omega arith)
 
 loop-holds : tie.Need-loop-holds Inv-loop μ-loop
 loop-holds c = fills-start refl
@@ -64,7 +64,7 @@ rounded-q13-requires c κs =
     let q = l .before .expanded2 in
     let s = l .before .before .before in
     let j = l .loop .j in
-    let h = polynomial-within (s .args .lsp) (all-fit 10 (s .good .0)) in
+    let h = polynomial-within (s .args .lsp) (all-fit 10 (s .good .1 .0)) in
     let x : AllWithin (2 ^ 37) (p .result) = rw (p .ensures) (h _ 5 (lit≤ tt)) in
     let y : AllWithin (2 ^ 37) (q .result) = rw (q .ensures) (h _ 5 (lit≤ tt)) in (
       within-is (is-mag (entry (p .result) (j + 1)) (c .before .before .before .rounded-q13-arg .given)) (x .at (j + 1)),
@@ -109,8 +109,8 @@ returns c =
     let f = l .before .expanded2 .ensures in
     fills-end (l .loop .inv) (omega arith) ∙ (λ i. tabulate (summed (e i) (f i)) 10) ∙ summed-coefficients (l .before .before .before .args .lsp)
 
-pub lsp-to-lpc-q13-spec : {M : Type 1} → statement M
-lsp-to-lpc-q13-spec =
+pub lpc-of-spec : {M : Type 1} → statement M
+lpc-of-spec =
     tie.close
     (tie.spec
     Inv-loop
