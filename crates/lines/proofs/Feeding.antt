@@ -9,12 +9,12 @@ use native.Mathlib.Numerals.{add-one}
 use native.Mathlib.Omega.{arith}
 use lib.Dec.{eqb}
 use lib.ListN.{length, take}
-use Rattle.lines.specs.Parts.{newlineAt}
-use Rattle.lines.specs.Replay.{pushed, pushedAll, textOf, saidLine, nextLine, withByte, after, said, toNewline, endedOf, fedOf}
+use Rattle.lines.specs.Parts.{replyOf, lineReply, fedBy, newlineAt}
+use Rattle.lines.specs.Replay.{pushed, pushedAll, textOf, saidLine, nextLine, withByte, after, said, toNewline, fedOf}
 use Rattle.lines.specs.declared.Line.{Line}
 use Rattle.lines.specs.declared.Replay.{Replay}
 use Rattle.lines.specs.declared.Text.{Text}
-use Rattle.lines.specs.declared.Fed.{Fed}
+use Rattle.lines.specs.declared.Reply.{Reply}
 
 abbrev pub withLine : Replay → Line → Replay
 withLine r l = record { state = r .state; line = l; tallies = r .tallies }
@@ -134,16 +134,12 @@ goes r (b ∷ xs) h =
 
 -- ---- what `feed` answers
 
-pub fed-ended : (r : Replay) (xs : List ℕ) (f : Fed) → newlineAt xs < length xs → f ≡ endedOf (longer r xs)
-    → record { replay = f .replay; text = f .text; used = newlineAt xs + 1 } ≡ fedOf r xs
-unfolding fedOf endedOf
-fed-ended r xs f h k =
+pub fed-ended : (r : Replay) (xs : List ℕ) (a : Reply) → newlineAt xs < length xs → a ≡ lineReply (longer r xs .line) (r .state)
+    → fedBy (r .tallies) a (newlineAt xs + 1) ≡ fedOf r xs
+unfolding fedOf nextLine saidLine replyOf
+fed-ended r xs a h e =
     let w = ends r xs h in
-    λ i. record {
-      replay = (ap (λ (d : Fed). d .replay) k ∙ sym (w .carried)) i;
-      text = (ap (λ (d : Fed). d .text) k ∙ ap textOf (sym (w .told))) i;
-      used = sym (w .used) i;
-    }
+    ap (λ (b : Reply). fedBy (r .tallies) b (newlineAt xs + 1)) e ∙ (λ i. record { replay = sym (w .carried) i; text = textOf (sym (w .told) i); used = sym (w .used) i })
 
 pub fed-going : (r : Replay) (xs : List ℕ) (m : Replay) (t : Text) → length xs ≤ newlineAt xs → m ≡ longer r xs → t ≡ textOf []
     → record { replay = m; text = t; used = newlineAt xs } ≡ fedOf r xs

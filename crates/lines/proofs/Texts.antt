@@ -91,9 +91,9 @@ line-text l s h n = ap (λ (b : Bool). replyOf b (bytesOf (characters l)) s) (ap
 
 -- ---- the end of a line
 
-pub ended-is : (r : Replay) (a : Reply) (f : Fed) → a ≡ lineReply (r .line) (r .state) → f ≡ fedBy (r .tallies) a → f ≡ endedOf r
+pub ended-is : (r : Replay) (a : Reply) (f : Fed) → a ≡ lineReply (r .line) (r .state) → f ≡ fedBy (r .tallies) a 0 → f ≡ endedOf r
 unfolding endedOf nextLine saidLine replyOf
-ended-is r a f e g = g ∙ ap (fedBy (r .tallies)) e
+ended-is r a f e g = g ∙ ap (λ (b : Reply). fedBy (r .tallies) b 0) e
 
 -- ---- that of the input
 

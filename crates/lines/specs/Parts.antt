@@ -33,12 +33,12 @@ lineReply l s = replyOf (isRecord l) (bytesOf (characters l)) s
 abbrev pub textReply : List ℕ → State → Reply
 textReply text s = replyOf (isRecordLine text) (bytesOf text) s
 
--- what is carried and said after an answer, from the tallies before it
-abbrev pub fedBy : List ℕ → Reply → Fed
-fedBy tallies a = record {
+-- what is carried and said after an answer, from the tallies before it, where n bytes were used
+abbrev pub fedBy : List ℕ → Reply → ℕ → Fed
+fedBy tallies a n = record {
   replay = record { state = a .state; line = blank; tallies = counted tallies (a .number) };
   text = a .text;
-  used = 0;
+  used = n;
 }
 
 -- the place of the first newline, or the length

@@ -228,8 +228,8 @@ fn part_reply(given: State, line: Line, part: &[u8]) -> Reply
 }
 
 // What follows from an answer.
-fn fed_by(tallies: [u64; 12], a: Reply) -> Fed
-    ensures { λ r. ⌜ r ≡ fedBy tallies a ⌝ }
+fn fed_by(tallies: [u64; 12], a: Reply, used: usize) -> Fed
+    ensures { λ r. ⌜ r ≡ fedBy tallies a used ⌝ }
 {
     let state = a.state;
     let text = a.text;
@@ -240,7 +240,7 @@ fn fed_by(tallies: [u64; 12], a: Reply) -> Fed
             tallies: counts::count(tallies, a.number),
         },
         text: text,
-        used: 0,
+        used: used,
     }
 }
 
@@ -265,14 +265,7 @@ pub fn feed(given: Replay, input: &[u8]) -> Fed
     let end = newline(input);
     if end < input.len() {
         let a = part_reply(state, line, &input[..end]);
-        let f = fed_by(tallies, a);
-        let replay = f.replay;
-        let text = f.text;
-        return Fed {
-            replay: replay,
-            text: text,
-            used: end + 1,
-        };
+        return fed_by(tallies, a, end + 1);
     }
     let longer = append(line, input);
     Fed {
@@ -295,7 +288,7 @@ pub fn finish(given: Replay) -> Fed
         let state = given.state;
         let tallies = given.tallies;
         let a = line_reply(state, line);
-        return fed_by(tallies, a);
+        return fed_by(tallies, a, 0);
     }
     Fed {
         replay: given,

@@ -32,10 +32,9 @@ fn piece(given: Replay, input: &[u8]) -> Turn
     let mut at: usize = 0;
     while at < input.len() {
         let f = lines::feed(replay, &input[at..]);
-        let next = f.replay;
         let text = f.text;
         let bytes = text.bytes;
-        replay = next;
+        replay = f.replay;
         if !write(&bytes, text.len) {
             return Turn {
                 replay: replay,

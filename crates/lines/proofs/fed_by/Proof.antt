@@ -10,8 +10,9 @@ count-requires c κs = tt
 
 returns : tie.Need-returns
 returns c =
-    let a = c .before .before .before .before .args .a in
-    λ i. record { replay = record { state = a .state; line = c .before .blank-line .ensures i; tallies = c .count .ensures i }; text = a .text; used = 0 }
+    let s = c .before .before .before .before .args in
+    let a = s .a in
+    λ i. record { replay = record { state = a .state; line = c .before .blank-line .ensures i; tallies = c .count .ensures i }; text = a .text; used = s .used }
 
 pub fed-by-spec : {M : Type 1} → statement M
 fed-by-spec = tie.close (tie.spec blank-line-requires count-requires returns)

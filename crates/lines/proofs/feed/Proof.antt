@@ -4,8 +4,7 @@ use native.Mathlib.Omega.{arith}
 use lib.ListN.{length, take}
 use lib.Seq.{length-take-le, take-all}
 use Rattle.lines.specs.Replay.{pushedAll}
-use Rattle.lines.specs.Parts.{lineReply, newlineAt}
-use Rattle.lines.proofs.Texts.{ended-is}
+use Rattle.lines.specs.Parts.{lineReply, fedBy, newlineAt}
 use Rattle.lines.proofs.Feeding.{withLine, longer, newline-inside, fed-ended, fed-going}
 use borrow.Author.Needs.{needs}
 use Rattle.lines.proofs.feed.Statement.{statement}
@@ -23,27 +22,21 @@ slice-aggregate-part-reply c =
 part-reply-requires : tie.Need-part-reply-requires
 part-reply-requires c κs = tt
 
+add-fed-by : tie.Need-add-fed-by
+add-fed-by c = search needs
+
 fed-by-requires : tie.Need-fed-by-requires
 fed-by-requires c κs = tt
 
-add-t16 : tie.Need-add-t16
-add-t16 c =
-    let n = c .before .before .before .before .before .before in
-    let xs = n .before .before .before .before .before .args .input .now in
-    search (needs, newline-inside xs)
-
 returns : tie.Need-returns
 returns c =
-    let f = c .before .before in
-    let p = f .before in
+    let p = c .before in
     let n = p .before .before .before in
     let a = n .before .before .before .before .before .args in
     let e = n .newline .ensures in
-    let r = longer (a .given) (a .input .now) in
-    let l : p .part-reply .result ≡ lineReply (r .line) (a .given .state) =
+    let l : p .part-reply .result ≡ lineReply (longer (a .given) (a .input .now) .line) (a .given .state) =
     p .part-reply .ensures ∙ ap (λ (k : ℕ). lineReply (pushedAll (a .given .line) (take k (a .input .now))) (a .given .state)) e in
-    (λ i. record { replay = f .fed-by .result .replay; text = f .fed-by .result .text; used = e i + 1 })
-    ∙ fed-ended (a .given) (a .input .now) (f .fed-by .result) (omega (arith, e)) (ended-is r (p .part-reply .result) (f .fed-by .result) l (f .fed-by .ensures))
+    c .fed-by .ensures ∙ (λ i. fedBy (a .given .tallies) (p .part-reply .result) (e i + 1)) ∙ fed-ended (a .given) (a .input .now) (p .part-reply .result) (omega (arith, e)) l
 
 append-requires : tie.Need-append-requires
 append-requires c κs = tt
@@ -70,8 +63,8 @@ feed-spec =
     newline-requires
     slice-aggregate-part-reply
     part-reply-requires
+    add-fed-by
     fed-by-requires
-    add-t16
     returns
     append-requires
     no-text-requires
