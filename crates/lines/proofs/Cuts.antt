@@ -51,6 +51,10 @@ fed-step r xs f e =
     let g : Fed → Replay = λ d. after (d .replay) (drop (d .used) xs) in
     ap (after r) (sym (piece-rest xs)) ∙ after-cut r p (drop (length p) xs) ∙ ap g (sym e)
 
+pub fed-carried : (r : Replay) (xs : List ℕ) (f : Fed) → f ≡ fedOf r xs → f .replay ≡ after r (toNewline xs)
+unfolding fedOf
+fed-carried r xs f e = ap (λ (d : Fed). d .replay) e
+
 pub fed-used : (r : Replay) (xs : List ℕ) (f : Fed) → f ≡ fedOf r xs → (f .used ≤ length xs) × (length xs ≤ f .used + (length xs - 1))
 unfolding fedOf
 fed-used r xs f e =

@@ -3,8 +3,9 @@
 // read or written, and the program ends as it would otherwise.
 ghost use mathlib.Core.Path.{_≡_};
 ghost use mathlib.Core.Bool.{true};
-ghost use lib.ListN.{length};
-ghost use Rattle.lines.specs.Replay.{after};
+ghost use mathlib.Core.List.{List};
+ghost use Prim.Native.Nat.{ℕ};
+ghost use Rattle.lines.specs.Replay.{freshReplay, after};
 use libc::STDIN_FILENO;
 use libc::STDOUT_FILENO;
 use lines::Replay;
@@ -24,9 +25,11 @@ fn write(bytes: &[u8], len: usize) -> bool {
     io::write_all(STDOUT_FILENO, bytes)
 }
 
-// All that a piece of the input adds, by one call of `feed` after the other.
+// All that a piece of the input adds, by one call of `feed` after the other. What is carried is what some bytes leave, even
+// where a write failed.
 fn piece(given: Replay, input: &[u8]) -> Turn
     ensures { λ r. ⌜ (r .«is_written» ≡ true → r .replay ≡ after given (now (input .entry))) ⌝ }
+    ensures { λ r. ⌜ ((xs : List ℕ) × (r .replay ≡ after given xs)) ⌝ }
 {
     let mut replay = given;
     let mut at: usize = 0;
@@ -52,7 +55,9 @@ fn piece(given: Replay, input: &[u8]) -> Turn
 }
 
 // One read.
-fn read_piece(given: Replay) -> Turn {
+fn read_piece(given: Replay) -> Turn
+    ensures { λ r. ⌜ ((xs : List ℕ) × (r .replay ≡ after given xs)) ⌝ }
+{
     let mut buf = io::large_buffer();
     let got = libc::read(STDIN_FILENO, &mut buf);
     if got <= 0 {
@@ -67,7 +72,9 @@ fn read_piece(given: Replay) -> Turn {
 }
 
 // Reads to the end of the input. A proved loop has to end, so it counts its turns down from a number that no run uses up.
-fn read_all(given: Replay) -> Turn {
+fn read_all(given: Replay) -> Turn
+    ensures { λ r. ⌜ ((xs : List ℕ) × (r .replay ≡ after given xs)) ⌝ }
+{
     let mut now = Turn {
         replay: given,
         is_written: true,
@@ -97,12 +104,16 @@ fn close(given: Replay) {
     }
 }
 
-// Document 01's program `frames`.
-pub fn serve() {
+// Document 01's program `frames`. What it has carried to the end of the input is what the bytes that it read leave; which
+// bytes those are is in no contract of `read`, so that the promise says that there are such.
+pub fn serve() -> Replay
+    ensures { λ r. ⌜ ((input : List ℕ) × (r ≡ after freshReplay input)) ⌝ }
+{
     let start = lines::start();
     let t = read_all(start);
+    let last = t.replay;
     if t.is_written {
-        let replay = t.replay;
-        close(replay);
+        close(last);
     }
+    last
 }

@@ -8,18 +8,19 @@ use lib.ListN.{length, drop, length-drop, drop-of-length-le}
 use lib.Seq.{drop-drop, take-all}
 use Rattle.integers.specs.Truth.{clash}
 use Rattle.lines.specs.Replay.{after, fedOf}
-use Rattle.lines.proofs.Cuts.{fed-step, fed-used, nothing-carried}
+use Rattle.lines.proofs.Cuts.{fed-step, fed-carried, fed-used, nothing-carried}
+use Rattle.program.proofs.Reached.{Reached, reached-start, reached-more}
 use Rattle.program.proofs.piece.Statement.{statement}
 use Rattle.program.proofs.piece.Tie as tie
 
 abbrev Inv-loop : tie.InvT-loop
-Inv-loop input replay₀ at₀ replay at = (at ≤ length input) × (after replay₀ input ≡ after replay (drop at input))
+Inv-loop input replay₀ at₀ replay at = (at ≤ length input) × (after replay₀ input ≡ after replay (drop at input)) × Reached replay₀ replay
 
 abbrev μ-loop : tie.MeasureT-loop
 μ-loop input replay₀ at₀ replay at = length input - at
 
 loop-holds : tie.Need-loop-holds Inv-loop μ-loop
-loop-holds c = (omega arith, refl)
+loop-holds c = (omega arith, refl, reached-start (c .before .args .given))
 
 sub-feed : tie.Need-sub-feed Inv-loop μ-loop
 sub-feed c = search needs
@@ -47,7 +48,10 @@ write-requires : tie.Need-write-requires Inv-loop μ-loop
 write-requires c κs = tt
 
 returns : tie.Need-returns Inv-loop μ-loop
-returns c e = clash {b = true} refl (sym e)
+returns c =
+    let f = c .before .before .before .before .before .before in
+    let l = f .before .before .before in
+    (λ e. clash {b = true} refl (sym e), reached-more (l .before .before .args .given) (l .loop .replay) (f .feed .result .replay) _ (l .loop .inv .2) (fed-carried (l .loop .replay) (drop (l .loop .at) (l .before .before .args .input .now)) (f .feed .result) (fed f)))
 
 add-at : tie.Need-add-at Inv-loop μ-loop
 add-at c =
@@ -76,13 +80,14 @@ loop-again c =
     let u = fed-used (l .loop .replay) rest (f .feed .result) (fed f) in (
       omega (arith, u .0, length-drop (l .loop .at) xs),
       l .loop .inv .1 ∙ fed-step (l .loop .replay) rest (f .feed .result) (fed f) ∙ ap (after (f .feed .result .replay)) (drop-drop (f .feed .result .used) (l .loop .at) xs),
+      reached-more (l .before .before .args .given) (l .loop .replay) (f .feed .result .replay) _ (l .loop .inv .2) (fed-carried (l .loop .replay) rest (f .feed .result) (fed f)),
     )
 
 returns-2 : tie.Need-returns-2 Inv-loop μ-loop
-returns-2 c e =
+returns-2 c =
     let l = c .before in
     let xs = l .before .before .args .input .now in
-    sym (l .loop .inv .1 ∙ ap (after (l .loop .replay)) (drop-of-length-le xs {i = l .loop .at} (omega arith)) ∙ nothing-carried (l .loop .replay) [] (omega arith))
+    (λ e. sym (l .loop .inv .1 ∙ ap (after (l .loop .replay)) (drop-of-length-le xs {i = l .loop .at} (omega arith)) ∙ nothing-carried (l .loop .replay) [] (omega arith)), l .loop .inv .2)
 
 pub piece-spec : {M : Type 1} → statement M
 piece-spec =
