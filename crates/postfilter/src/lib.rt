@@ -6,6 +6,7 @@ ghost use mir.Syntax.{w32};
 ghost use mir.Val.{SFits};
 ghost use Rattle.integers.specs.Base.{sumTo, entry, tabulate, Within, AllFit, Fills};
 ghost use Rattle.tables.specs.Tables.{postfilterZeros};
+ghost use Rattle.basicop.specs.Operators.{word16};
 ghost use Rattle.synthesis.specs.Synthesis.{inputs, poleZero, outputMemory};
 ghost use Rattle.postfilter.specs.Postfilter.{weighted, zeros, poles, tiltOf, smoothed, compensatedSample, compensated, gainTarget, towards, gainAfter, gainedSample, gained, filtered, postfilterAfter};
 use synthesis::Synthesised;
@@ -189,11 +190,23 @@ fn moved_gain(t: i32, g: i32) -> i32
     (g as i64 + (distance >> 4)) as i32
 }
 
+// A number limited to 16 bits at once: limited to 32 first it takes two more tests a sample.
+fn limited_sample(q: i64) -> i16
+    ensures { λ r. ⌜ r ≡ word16 q ⌝ }
+{
+    if q > 32767 {
+        32767
+    } else if q < -32768 {
+        -32768
+    } else {
+        q as i16
+    }
+}
+
 fn gained_sample(g: i32, z: i16) -> i16
     ensures { λ r. ⌜ r ≡ gainedSample g z ⌝ }
 {
-    let q = (z as i64 * g as i64 * tables::AGC_BOOST + 32768) >> 16;
-    basicop::saturate(basicop32::sat32(q))
+    limited_sample((z as i64 * g as i64 * tables::AGC_BOOST + 32768) >> 16)
 }
 
 fn gained_subframe(t: i32, gain: i32, z: &[i16; 60]) -> Gained
