@@ -15,6 +15,11 @@ prediction a past = sumTo (λ j. entry a j *ℤ entry past j) lpcOrder
 abbrev pub rounded : ℤ → ℤ
 rounded z = word16 (floorDiv (z +ℤ pos (lpcOne / 2)) lpcOne)
 
+-- the samples that the inputs v, in 8192ths, make after n, the most recent first, on top of the memory
+unfoldable pub driven : List ℤ → (ℕ → ℤ) → List ℤ → ℕ → List ℤ
+driven a v memory zero = memory
+driven a v memory (suc n) = let past = driven a v memory n in rounded (v n +ℤ prediction a past) ∷ past
+
 -- ---- synthesis (synthesis_subframe)
 
 -- the samples that x has synthesised after n, the most recent first, on top of the memory
@@ -57,3 +62,15 @@ inputMemory y = tabulate (λ j. entry y (subframeSize - 1 - j)) lpcOrder
 
 unfoldable pub outputMemory : List ℤ → List ℤ → List ℤ → List ℤ → List ℤ → List ℤ
 outputMemory zeros poles y num den = take lpcOrder (outputs zeros poles y num den subframeSize)
+
+-- ---- its poles, where `less` is what its zeros predict for each sample, in 8192ths
+
+abbrev pub difference : List ℤ → List ℤ → ℕ → ℤ
+difference y less n = entry y n *ℤ pos lpcOne -ℤ entry less n
+
+-- the subframe, the first sample first, and the memory after it
+unfoldable pub poleOutput : List ℤ → List ℤ → List ℤ → List ℤ → List ℤ
+poleOutput a y less memory = tabulate (λ n. entry (driven a (difference y less) memory (n + 1)) 0) subframeSize
+
+unfoldable pub poleMemory : List ℤ → List ℤ → List ℤ → List ℤ → List ℤ
+poleMemory a y less memory = take lpcOrder (driven a (difference y less) memory subframeSize)

@@ -1,26 +1,20 @@
-// The filters of a subframe: synthesis, under the Rust's name (qdec.rs), with its memory clamped, and the filter with zeros
-// and poles of the formant postfilter. Memories are sixteen bits by type.
+// The filters of a subframe: synthesis, under the Rust's name (qdec.rs), with its memory clamped, and the poles of the formant
+// postfilter. Memories are sixteen bits by type.
 ghost use mathlib.Core.Path.{_≡_};
 ghost use mathlib.Core.List.{_∷_};
-ghost use Prim.Native.Nat.{_-_, _*_, _^_};
-ghost use lib.IntN.{pos, _+ℤ_, _*ℤ_};
+ghost use Prim.Native.Nat.{_+_, _*_, _^_};
+ghost use lib.IntN.{pos, _+ℤ_, _-ℤ_, _*ℤ_};
 ghost use lib.ListN.{take};
 ghost use mir.Syntax.{w16};
 ghost use mir.Val.{SFits};
-ghost use Rattle.integers.specs.Base.{entry, tabulate, Within, AllFit};
-ghost use Rattle.synthesis.specs.Synthesis.{prediction, rounded, synthesised, memoryAfter, poleZeroSample, poleZero, inputMemory, outputMemory};
+ghost use Rattle.integers.specs.Base.{entry, tabulate, Within, AllWithin, AllFit};
+ghost use Rattle.basicop.specs.Operators.{word16};
+ghost use Rattle.synthesis.specs.Synthesis.{prediction, rounded, driven, synthesised, memoryAfter, difference, poleOutput, poleMemory, inputMemory};
 
 // A subframe, and the memory after it.
 pub struct Synthesised {
     pub out: [i16; 60],
     pub mem: [i16; 10],
-}
-
-// A subframe, and both memories after it.
-pub struct PoleZero {
-    pub out: [i16; 60],
-    pub num_mem: [i16; 10],
-    pub den_mem: [i16; 10],
 }
 
 // Samples of 16 bits in words of 64: ten narrower ones would be kept in one register, from which each has to be taken.
@@ -78,8 +72,8 @@ fn remembered(mem: [i64; 10], y: i16) -> [i64; 10]
 }
 
 // The last ten of a subframe, the most recent first.
-fn last_ten(y: &[i16; 60]) -> [i16; 10]
-    ensures { λ r. ⌜ r ≡ tabulate (λ j. entry (now (y .entry)) (59 - j)) 10 ⌝ }
+pub fn last_ten(y: &[i16; 60]) -> [i16; 10]
+    ensures { λ r. ⌜ r ≡ inputMemory (now (y .entry)) ⌝ }
 {
     [
         y[59],
@@ -95,26 +89,42 @@ fn last_ten(y: &[i16; 60]) -> [i16; 10]
     ]
 }
 
+// A number limited to 16 bits at once: limited to 32 first it takes two more tests a sample.
+pub fn limited_sample(q: i64) -> i16
+    ensures { λ r. ⌜ r ≡ word16 q ⌝ }
+{
+    if q > 32767 {
+        32767
+    } else if q < -32768 {
+        -32768
+    } else {
+        q as i16
+    }
+}
+
 // Back from 8192ths to a sample.
 fn rounded_sample(acc: i64) -> i16
     requires { ⌜ Within (2 ^ 45) acc ⌝ }
     ensures { λ r. ⌜ r ≡ rounded acc ⌝ }
 {
-    basicop::saturate(basicop32::sat32((acc + 4096) >> 13))
+    limited_sample((acc + 4096) >> 13)
 }
 
-// One sample of synthesis.
-fn sample(a: [i16; 10], x: i32, mem: [i64; 10]) -> i16
+// One sample, of an input in 8192ths.
+fn sample(a: [i16; 10], x: i64, mem: [i64; 10]) -> i16
+    requires { ⌜ Within (2 ^ 44) x ⌝ }
     requires { ⌜ AllFit w16 mem ⌝ }
-    ensures { λ r. ⌜ r ≡ rounded (x *ℤ pos 8192 +ℤ prediction a mem) ⌝ }
+    ensures { λ r. ⌜ r ≡ rounded (x +ℤ prediction a mem) ⌝ }
 {
     let p = predicted(a, mem);
-    rounded_sample(x as i64 * 8192 + p)
+    rounded_sample(x + p)
 }
 
-pub fn synthesis_subframe(a: [i16; 10], x: &[i32; 60], mem: [i16; 10]) -> Synthesised
-    ensures { λ r. ⌜ r .out ≡ synthesised a (now (x .entry)) mem ⌝ }
-    ensures { λ r. ⌜ r .mem ≡ memoryAfter a (now (x .entry)) mem ⌝ }
+// A subframe, of inputs in 8192ths: all that does not wait for the sample before it is done before.
+fn driven_subframe(a: [i16; 10], x: &[i64; 60], mem: [i16; 10]) -> Synthesised
+    requires { ⌜ AllWithin (2 ^ 44) (now x) ⌝ }
+    ensures { λ r. ⌜ r .out ≡ tabulate (λ n. entry (driven a (entry (now (x .entry))) mem (n + 1)) 0) 60 ⌝ }
+    ensures { λ r. ⌜ r .mem ≡ take 10 (driven a (entry (now (x .entry))) mem 60) ⌝ }
 {
     let mut m = widened(mem);
     let mut out = [0i16; 60];
@@ -133,54 +143,59 @@ pub fn synthesis_subframe(a: [i16; 10], x: &[i32; 60], mem: [i16; 10]) -> Synthe
     }
 }
 
-// One sample of the filter with zeros and poles.
-fn pole_zero_sample(
-    zeros: [i16; 10],
-    poles: [i16; 10],
-    y: i16,
-    num: [i64; 10],
-    den: [i64; 10],
-) -> i16
-    requires { ⌜ AllFit w16 num ⌝ }
-    requires { ⌜ AllFit w16 den ⌝ }
-    ensures { λ r. ⌜ r ≡ poleZeroSample zeros poles y num den ⌝ }
+fn scaled_input(x: i32) -> i64
+    ensures { λ r. ⌜ r ≡ x *ℤ pos 8192 ⌝ }
 {
-    let n = predicted(zeros, num);
-    let d = predicted(poles, den);
-    rounded_sample(y as i64 * 8192 - n + d)
+    x as i64 * 8192
 }
 
-// The filter with zeros and poles over one subframe.
-pub fn pole_zero_subframe(
-    zeros: [i16; 10],
-    poles: [i16; 10],
-    y: &[i16; 60],
-    num_mem: [i16; 10],
-    den_mem: [i16; 10],
-) -> PoleZero
-    ensures { λ r. ⌜ r .out ≡ poleZero zeros poles (now (y .entry)) «num_mem» «den_mem» ⌝ }
-    ensures { λ r. ⌜ r .«num_mem» ≡ inputMemory (now (y .entry)) ⌝ }
-    ensures { λ r. ⌜ r .«den_mem» ≡ outputMemory zeros poles (now (y .entry)) «num_mem» «den_mem» ⌝ }
+// The inputs of synthesis in 8192ths.
+fn scaled_inputs(x: &[i32; 60]) -> [i64; 60]
+    ensures { λ r. ⌜ r ≡ tabulate (λ n. entry (now (x .entry)) n *ℤ pos 8192) 60 ⌝ }
+    ensures { λ r. ⌜ AllWithin (2 ^ 44) r ⌝ }
 {
-    let mut num = widened(num_mem);
-    let mut den = widened(den_mem);
-    let mut out = [0i16; 60];
+    let mut v = [0i64; 60];
     let mut n: usize = 0;
     while n < 60 {
-        let x = y[n];
-        let z = pole_zero_sample(zeros, poles, x, num, den);
-        out[n] = z;
-        let before = remembered(num, x);
-        let passed = remembered(den, z);
-        num = before;
-        den = passed;
+        v[n] = scaled_input(x[n]);
         n += 1;
     }
-    let inputs = last_ten(y);
-    let outputs = last_ten(&out);
-    PoleZero {
-        out: out,
-        num_mem: inputs,
-        den_mem: outputs,
+    v
+}
+
+pub fn synthesis_subframe(a: [i16; 10], x: &[i32; 60], mem: [i16; 10]) -> Synthesised
+    ensures { λ r. ⌜ r .out ≡ synthesised a (now (x .entry)) mem ⌝ }
+    ensures { λ r. ⌜ r .mem ≡ memoryAfter a (now (x .entry)) mem ⌝ }
+{
+    let v = scaled_inputs(x);
+    driven_subframe(a, &v, mem)
+}
+
+fn input_less(y: i16, less: i32) -> i64
+    ensures { λ r. ⌜ r ≡ y *ℤ pos 8192 -ℤ less ⌝ }
+{
+    y as i64 * 8192 - less as i64
+}
+
+// The inputs of the poles.
+fn inputs_less(y: &[i16; 60], less: &[i32; 60]) -> [i64; 60]
+    ensures { λ r. ⌜ r ≡ tabulate (difference (now (y .entry)) (now (less .entry))) 60 ⌝ }
+    ensures { λ r. ⌜ AllWithin (2 ^ 44) r ⌝ }
+{
+    let mut v = [0i64; 60];
+    let mut n: usize = 0;
+    while n < 60 {
+        v[n] = input_less(y[n], less[n]);
+        n += 1;
     }
+    v
+}
+
+// The poles of a filter over one subframe; `less` is what its zeros take away, in 8192ths.
+pub fn pole_subframe(a: [i16; 10], y: &[i16; 60], less: &[i32; 60], mem: [i16; 10]) -> Synthesised
+    ensures { λ r. ⌜ r .out ≡ poleOutput a (now (y .entry)) (now (less .entry)) mem ⌝ }
+    ensures { λ r. ⌜ r .mem ≡ poleMemory a (now (y .entry)) (now (less .entry)) mem ⌝ }
+{
+    let v = inputs_less(y, less);
+    driven_subframe(a, &v, mem)
 }

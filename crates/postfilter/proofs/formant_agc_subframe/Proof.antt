@@ -11,8 +11,7 @@ use Rattle.integers.specs.Bound.{within-weaken}
 use Rattle.integers.specs.Signed.{back}
 use Rattle.integers.specs.Expression.{is-mag, is-result, within-is}
 use Rattle.correlation.specs.Correlation.{energy}
-use Rattle.synthesis.specs.Synthesis.{poleZero, outputMemory}
-use Rattle.postfilter.specs.Postfilter.{weighted, zeros, poles, tiltOf, smoothed, compensated, gainTarget, gainAfter, gained}
+use Rattle.postfilter.specs.Postfilter.{tiltOf, smoothed, compensated, gainTarget, gainAfter, gained}
 use Rattle.postfilter.specs.Postfilter.{formantOf, tiltAfter, compensatedOf, targetOf, filtered, postfilterAfter}
 use Rattle.postfilter.proofs.Bounds.{tilt-within}
 use Rattle.postfilter.proofs.formant_agc_subframe.Statement.{statement}
@@ -20,16 +19,10 @@ use Rattle.postfilter.proofs.formant_agc_subframe.Tie as tie
 
 -- ---- from a call back to the one before
 
-abbrev poles-of : tie.After-pole-zero-subframe → tie.After-weighted-coefficients2
-poles-of c = c .before .before .before .before
+abbrev start-of : tie.After-formant-subframe → tie.Start
+start-of c = c .before .before .before .before
 
-abbrev zeros-of : tie.After-pole-zero-subframe → tie.After-weighted-coefficients
-zeros-of c = poles-of c .before .before
-
-abbrev start-of : tie.After-pole-zero-subframe → tie.Start
-start-of c = zeros-of c .before .before
-
-abbrev filter-of : tie.After-energy-from → tie.After-pole-zero-subframe
+abbrev filter-of : tie.After-energy-from → tie.After-formant-subframe
 filter-of c = c .before .before .before
 
 abbrev energy-of : tie.After-correlate → tie.After-energy-from
@@ -64,23 +57,8 @@ module _ (s : tie.Start) where
 
 -- ---- what each call answers, of the memory and the subframe
 
-module _ (c : tie.After-pole-zero-subframe) where
-  zeros-is : zeros-of c .weighted-coefficients .result ≡ zeros (start-of c .args .a)
-  zeros-is = zeros-of c .weighted-coefficients .ensures ∙ ap (weighted (start-of c .args .a)) (zeros-of c .before .postfilter-zero .ensures)
-
-  poles-is : poles-of c .weighted-coefficients2 .result ≡ poles (start-of c .args .a)
-  poles-is = poles-of c .weighted-coefficients2 .ensures ∙ ap (weighted (start-of c .args .a)) (poles-of c .before .postfilter-pole .ensures)
-
-  formant-is : let a = start-of c .args in c .pole-zero-subframe .result .out ≡ formantOf (a .pf) (a .a) (a .t3)
-  formant-is =
-      let a = start-of c .args in
-      c .pole-zero-subframe .ensures .0 ∙ (λ i. poleZero (zeros-is i) (poles-is i) (a .t3) (a .pf .«num_mem») (a .pf .«den_mem»))
-
-  passed-is : let a = start-of c .args in
-      c .pole-zero-subframe .result .«den_mem» ≡ outputMemory (zeros (a .a)) (poles (a .a)) (a .t3) (a .pf .«num_mem») (a .pf .«den_mem»)
-  passed-is =
-      let a = start-of c .args in
-      c .pole-zero-subframe .ensures .1 .1 ∙ (λ i. outputMemory (zeros-is i) (poles-is i) (a .t3) (a .pf .«num_mem») (a .pf .«den_mem»))
+formant-is : (c : tie.After-formant-subframe) → let a = start-of c .args in c .formant-subframe .result .out ≡ formantOf (a .pf) (a .a) (a .t3)
+formant-is c = c .formant-subframe .ensures .0
 
 energy-is : (c : tie.After-energy-from) → let a = start-of (filter-of c) .args in c .energy-from .result ≡ natAbs (energy (a .t3) 0 60)
 energy-is c = ap natAbs (c .energy-from .ensures .0)
@@ -111,20 +89,8 @@ target-is c =
     let f = ap natAbs (c .before .energy-from2 .ensures .0) ∙ ap (λ (z : List ℤ). natAbs (energy z 0 60)) (compensated-is v) in
     back w32 (c .gain-target .ok) (c .gain-target .ensures ∙ (λ i. pos (gainTarget (e i) (f i))))
 
-postfilter-zero-requires : tie.Need-postfilter-zero-requires
-postfilter-zero-requires c κs = tt
-
-weighted-coefficients-requires : tie.Need-weighted-coefficients-requires
-weighted-coefficients-requires c κs = tt
-
-postfilter-pole-requires : tie.Need-postfilter-pole-requires
-postfilter-pole-requires c κs = tt
-
-weighted-coefficients-requires-2 : tie.Need-weighted-coefficients-requires-2
-weighted-coefficients-requires-2 c κs = tt
-
-pole-zero-subframe-requires : tie.Need-pole-zero-subframe-requires
-pole-zero-subframe-requires c κs = tt
+formant-subframe-requires : tie.Need-formant-subframe-requires
+formant-subframe-requires c κs = tt
 
 slice-aggregate-energy-from : tie.Need-slice-aggregate-energy-from
 slice-aggregate-energy-from c = search needs
@@ -168,24 +134,27 @@ gain-target-requires c κs = omega (arith, measured-of (c .before .before) .ener
 gained-subframe-requires : tie.Need-gained-subframe-requires
 gained-subframe-requires c κs = tt
 
-array-copy-out-t37 : tie.Need-array-copy-out-t37
-array-copy-out-t37 c = search needs
+last-ten-requires : tie.Need-last-ten-requires
+last-ten-requires c κs = tt
+
+array-copy-out-t35 : tie.Need-array-copy-out-t35
+array-copy-out-t35 c = search needs
 
 returns : tie.Need-returns
 unfolding filtered postfilterAfter
 returns c =
-    let g = c .before .before .before .before .before in
+    let g = c .before .before .before .before .before .before in
     let target = target-is (target-of g) in
     let v = compensation-of (target-of g) in
     let f = filter-of (measured-of v) in
     let gain = toZ-ofZ {w = w32} (gain-fits (start-of f)) in
     let r = g .gained-subframe in
     let moved = back w32 (c .struct-told4 .given .1 .0 .1) (r .ensures .1 ∙ (λ i. gainAfter (target i) (gain i) 60)) in
-    let last = back w16 (c .before .t37 .given) (ap (λ (z : List ℤ). entry z 59) (formant-is f)) in (
+    let last = back w16 (c .before .t35 .given) (ap (λ (z : List ℤ). entry z 59) (formant-is f)) in (
       r .ensures .0 ∙ (λ i. gained (target i) (gain i) (compensated-is v i)),
       (λ i. record {
-        «num_mem» = f .pole-zero-subframe .ensures .1 .0 i;
-        «den_mem» = passed-is f i;
+        «num_mem» = c .before .before .before .last-ten .ensures i;
+        «den_mem» = f .formant-subframe .ensures .1 i;
         «tilt_prev» = last i;
         «tilt_k1» = tilt-is (tilt-of v) i;
         «agc_gain_q12» = moved i;
@@ -196,11 +165,7 @@ pub formant-agc-subframe-spec : {M : Type 1} → statement M
 formant-agc-subframe-spec =
     tie.close
     (tie.spec
-    postfilter-zero-requires
-    weighted-coefficients-requires
-    postfilter-pole-requires
-    weighted-coefficients-requires-2
-    pole-zero-subframe-requires
+    formant-subframe-requires
     slice-aggregate-energy-from
     energy-from-requires
     slice-aggregate-correlate
@@ -213,5 +178,6 @@ formant-agc-subframe-spec =
     energy-from-requires-2
     gain-target-requires
     gained-subframe-requires
-    array-copy-out-t37
+    last-ten-requires
+    array-copy-out-t35
     returns)

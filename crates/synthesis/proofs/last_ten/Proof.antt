@@ -7,6 +7,7 @@ use mir.Syntax.{w16}
 use mir.Val.{toZ, ofZ}
 use Rattle.integers.specs.Base.{entry, tabulate}
 use Rattle.integers.specs.Signed.{read-back}
+use Rattle.synthesis.specs.Synthesis.{inputMemory}
 use Rattle.synthesis.proofs.last_ten.Statement.{statement}
 use Rattle.synthesis.proofs.last_ten.Tie as tie
 
@@ -41,7 +42,7 @@ element-copy-out-t31 : tie.Need-element-copy-out-t31
 element-copy-out-t31 c = omega arith
 
 returns : tie.Need-returns
-unfolding tabulate
+unfolding tabulate inputMemory
 returns c =
     let t28 = c .before in
     let t25 = t28 .before in

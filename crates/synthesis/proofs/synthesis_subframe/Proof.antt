@@ -1,101 +1,28 @@
-use mathlib.Core.Path.{refl, sym, ap, _∙_}
-use mathlib.Core.List.{List, _∷_}
-use Prim.Native.Nat.{_+_, _-_}
-use native.Mathlib.Omega.{arith}
-use lib.IntN.{ℤ, pos, _+ℤ_, _*ℤ_}
-use mir.Syntax.{w16, w32}
-use Rattle.integers.specs.Base.{entry, tabulate, Fills}
-use Rattle.integers.specs.Signed.{back, read-back, all-fit}
-use Rattle.integers.specs.Fill.{fills-start, fills-next, fills-end}
-use Rattle.synthesis.specs.Synthesis.{rounded, samples, synthesised}
-use Rattle.synthesis.proofs.Memories.{Remembers, memory-start, memory-step, memory-prediction}
-use Rattle.synthesis.proofs.Samples.{samples-zero, samples-step, samples-last}
+use mathlib.Core.Path.{ap, _∙_}
+use mathlib.Core.List.{List}
+use lib.ListN.{take}
+use lib.IntN.{ℤ}
+use Rattle.integers.specs.Base.{entry}
+use Rattle.synthesis.specs.Synthesis.{driven}
+use Rattle.synthesis.proofs.Samples.{subframe, synthesised-is, memory-is}
 use Rattle.synthesis.proofs.synthesis_subframe.Statement.{statement}
 use Rattle.synthesis.proofs.synthesis_subframe.Tie as tie
 
-abbrev Inv-loop : tie.InvT-loop
-Inv-loop a x m₀ out₀ n₀ m out n = Fills (λ k. entry (samples a x m₀ (k + 1)) 0) 60 out n × Remembers (samples a x m₀ n) m
+scaled-inputs-requires : tie.Need-scaled-inputs-requires
+scaled-inputs-requires c κs = tt
 
-abbrev μ-loop : tie.MeasureT-loop
-μ-loop a x m₀ out₀ n₀ m out n = 60 - n
+driven-subframe-requires : tie.Need-driven-subframe-requires
+driven-subframe-requires c κs = c .before .scaled-inputs .ensures .1
 
-widened-requires : tie.Need-widened-requires Inv-loop μ-loop
-widened-requires c κs = tt
-
-loop-holds : tie.Need-loop-holds Inv-loop μ-loop
-loop-holds c =
-    let s = c .before in
-    let a = s .args in
-    let zero = samples-zero (a .a) (a .x .now) (c .widened .result) in
-    (fills-start refl, memory-start zero (c .widened .ensures) (omega arith) (all-fit 10 (s .good .1 .1 .0)))
-
-mul-sample : tie.Need-mul-sample Inv-loop μ-loop
-mul-sample c = omega arith
-
-element-copy-out-sample : tie.Need-element-copy-out-sample Inv-loop μ-loop
-element-copy-out-sample c = omega arith
-
-sample-requires : tie.Need-sample-requires Inv-loop μ-loop
-sample-requires c κs = c .before .before .loop .inv .1 .fit
-
-mul-out : tie.Need-mul-out Inv-loop μ-loop
-mul-out c = omega arith
-
-array-set-from-out : tie.Need-array-set-from-out Inv-loop μ-loop
-array-set-from-out c = omega arith
-
-remembered-requires : tie.Need-remembered-requires Inv-loop μ-loop
-remembered-requires c κs = tt
-
-add-n : tie.Need-add-n Inv-loop μ-loop
-add-n c = omega arith
-
-loop-less : tie.Need-loop-less Inv-loop μ-loop
-loop-less c = omega arith
-
-loop-again : tie.Need-loop-again Inv-loop μ-loop
-loop-again c =
-    let l = c .before .before .before .before in
-    let a = l .before .before .args in
-    let mem = l .before .widened .result in
-    let n = l .loop .n in
-    let past = samples (a .a) (a .x .now) mem n in
-    let x = read-back w32 (entry (a .x .now) n) (c .before .before .sample-arg .given) in
-    let p = memory-prediction (l .loop .inv .1) (a .a) in
-    let y = c .before .sample in
-    let latest = back w16 (y .ok) (y .ensures ∙ (λ i. rounded (x i *ℤ pos 8192 +ℤ p i))) in
-    let all = (λ i. latest i ∷ past) ∙ sym (samples-step (a .a) (a .x .now) mem n) in (
-      fills-next (l .loop .inv .0) (omega arith) (ap (λ (q : List ℤ). entry q 0) all),
-      memory-step (l .loop .inv .1) (y .result) (y .ok) all (c .remembered .ensures),
-    )
-
-last-ten-requires : tie.Need-last-ten-requires Inv-loop μ-loop
-last-ten-requires c κs = tt
-
-returns : tie.Need-returns Inv-loop μ-loop
-unfolding synthesised
+returns : tie.Need-returns
 returns c =
-    let l = c .before .before .before in
-    let a = l .before .before .args in
-    let out = fills-end (l .loop .inv .0) (omega arith) ∙ ap (synthesised (a .a) (a .x .now)) (l .before .widened .ensures) in
-    (out, c .last-ten .ensures ∙ ap (λ (q : List ℤ). tabulate (λ j. entry q (59 - j)) 10) out ∙ samples-last (a .a) (a .x .now) (a .mem))
+    let v = c .before .before .scaled-inputs .ensures .0 in
+    let a = c .before .before .before .args in
+    let r = c .driven-subframe .ensures in (
+      r .0 ∙ ap (λ (x : List ℤ). subframe (driven (a .a) (entry x) (a .mem))) v ∙ synthesised-is (a .a) (a .x .now) (a .mem),
+      r .1 ∙ ap (λ (x : List ℤ). take 10 (driven (a .a) (entry x) (a .mem) 60)) v ∙ memory-is (a .a) (a .x .now) (a .mem),
+    )
 
 pub synthesis-subframe-spec : {M : Type 1} → statement M
 synthesis-subframe-spec =
-    tie.close
-    (tie.spec
-    Inv-loop
-    μ-loop
-    widened-requires
-    loop-holds
-    mul-sample
-    element-copy-out-sample
-    sample-requires
-    mul-out
-    array-set-from-out
-    remembered-requires
-    add-n
-    loop-less
-    loop-again
-    last-ten-requires
-    returns)
+    tie.close (tie.spec scaled-inputs-requires driven-subframe-requires returns)
