@@ -1,9 +1,8 @@
-use mathlib.Core.Path.{ap, _∙_}
+use mathlib.Core.Path.{_≡_, ap, _∙_}
 use mathlib.Core.List.{List}
 use Prim.Native.Nat.{ℕ}
 use Rattle.lines.specs.Replay.{freshReplay, after}
 use Rattle.lines.specs.declared.Replay.{Replay}
-use Rattle.program.proofs.Reached.{Reached}
 use Rattle.program.proofs.serve.Statement.{statement}
 use Rattle.program.proofs.serve.Tie as tie
 
@@ -13,10 +12,10 @@ start-requires c κs = tt
 read-all-requires : tie.Need-read-all-requires
 read-all-requires c κs = tt
 
-from-start : (c : tie.After-read-all) → Reached freshReplay (c .read-all .result .replay)
+from-start : (c : tie.After-read-all) → (input : List ℕ) × (c .read-all .result .replay .tallies ≡ after freshReplay input .tallies)
 from-start c =
     let e = c .read-all .ensures in
-    (e .0, e .1 ∙ ap (λ (q : Replay). after q (e .0)) (c .before .start .ensures))
+    (e .0, ap (λ (q : Replay). q .tallies) (e .1 ∙ ap (λ (q : Replay). after q (e .0)) (c .before .start .ensures)))
 
 close-requires : tie.Need-close-requires
 close-requires c κs = tt
@@ -24,8 +23,5 @@ close-requires c κs = tt
 returns : tie.Need-returns
 returns c = from-start (c .before .before .before)
 
-returns-2 : tie.Need-returns-2
-returns-2 c = from-start (c .before .before)
-
 pub serve-spec : {M : Type 1} → statement M
-serve-spec = tie.close (tie.spec start-requires read-all-requires close-requires returns returns-2)
+serve-spec = tie.close (tie.spec start-requires read-all-requires close-requires returns)
