@@ -1,8 +1,8 @@
 -- Laws of single characters, of the arms of the code that reads them, and of what is left of equal ones.
 use mathlib.Core.Path.{_≡_, refl, sym, ap, _∙_}
-use mathlib.Core.Bool.{Bool, true, false, cond, _&&_, _||_}
+use mathlib.Core.Bool.{Bool, true, false, _&&_, _||_}
 use mathlib.Core.Logic.{⊎-elim, _⊎_, inl, inr}
-use Prim.Native.Nat.{ℕ, zero, suc, _-_, _%_, _≤_, _<_}
+use Prim.Native.Nat.{ℕ, zero, suc, _-_, _%_, _≤_}
 use native.Mathlib.Omega.{arith}
 use lib.Dec.{leb, ltb}
 use lib.ListN.{drop, replicate}

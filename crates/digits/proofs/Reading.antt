@@ -1,20 +1,17 @@
 -- The loop of `digit_pairs`: what holds after i pairs of a text of at most 1,098 characters.
 use mathlib.Core.Path.{_≡_, refl, sym, ap, _∙_}
-use mathlib.Core.Bool.{Bool, true, false, cond, _&&_}
-use mathlib.Core.List.{List, [], _∷_, _++_}
-use mathlib.Core.Logic.{⊎-elim}
+use mathlib.Core.Bool.{Bool, true, false, _&&_}
+use mathlib.Core.List.{List, _++_}
 use Prim.Native.Nat.{ℕ, suc, _+_, _*_, _/_, _%_, _≤_, _<_}
 use native.Mathlib.Numerals.{add-one}
 use native.Mathlib.Omega.{arith}
-use lib.Dec.{leb, eqb}
+use lib.Dec.{eqb}
 use lib.ListN.{length, getD, set, drop, replicate, length-replicate}
-use borrow.Author.Tests.{le-leb, lt-leb, eqb-true, eqb-false}
+use borrow.Author.Tests.{le-leb, lt-leb, eqb-true}
 use Rattle.integers.specs.Base.{tabulate}
 use Rattle.integers.specs.Fill.{rest-start, rest-next}
 use Rattle.integers.specs.Truth.{and-regroup}
-use Rattle.tables.specs.Constants.{lineMax}
 use Rattle.digits.proofs.Characters.{drop-replicate}
-use Rattle.digits.specs.declared.Pairs.{Pairs}
 use Rattle.digits.specs.Digits.{isDigit, areDigits, arePairs, pairValue, bytesOf, longestRecord, pairsOf}
 
 abbrev pub zeros : List ℕ

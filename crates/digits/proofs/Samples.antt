@@ -1,10 +1,10 @@
 -- The loop of `sample_line`: the digits of i samples.
 use mathlib.Core.Path.{_≡_, refl, sym, ap, _∙_}
-use mathlib.Core.List.{List, [], _∷_, _++_}
+use mathlib.Core.List.{List, _++_}
 use Prim.Native.Nat.{ℕ, _+_, _-_, _*_, _/_, _%_, _^_, _≤_, _<_}
 use native.Mathlib.Omega.{arith}
 use lib.IntN.{ℤ}
-use lib.ListN.{length, set, drop, replicate, length-replicate}
+use lib.ListN.{set, drop, replicate, length-replicate}
 use Rattle.integers.specs.Base.{entry, tabulate}
 use Rattle.integers.specs.Fill.{rest-start, rest-next}
 use Rattle.digits.proofs.Characters.{drop-replicate}

@@ -1,14 +1,14 @@
 -- How the input is cut makes no difference to what is carried and said.
 use mathlib.Core.Path.{_≡_, refl, sym, ap, _∙_}
 use mathlib.Core.Bool.{Bool, true, false, cond}
-use mathlib.Core.List.{List, [], _∷_, _++_, append-nil, append-assoc}
-use Prim.Native.Nat.{ℕ, zero, suc, _+_, _-_, _≤_, _<_}
+use mathlib.Core.List.{List, [], _∷_, _++_, append-assoc}
+use Prim.Native.Nat.{ℕ, zero, suc, _+_, _-_, _≤_}
 use native.Mathlib.Omega.{arith}
 use lib.Dec.{eqb}
 use lib.ListN.{length, take, drop, replicate, length-append, length-drop}
 use lib.Seq.{take-append-seam}
-use Rattle.lines.specs.Replay.{textOf, saidLine, withByte, after, said, toNewline, fedOf}
-use Rattle.lines.specs.Whole.{written, pieceText, pieceReplay, piecesText, piecesReplay, joined}
+use Rattle.lines.specs.Replay.{saidLine, withByte, after, said, toNewline, fedOf}
+use Rattle.lines.specs.Whole.{pieceText, pieceReplay, piecesText, piecesReplay, joined}
 use Rattle.lines.specs.declared.Replay.{Replay}
 use Rattle.lines.specs.declared.Fed.{Fed}
 

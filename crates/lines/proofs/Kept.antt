@@ -1,12 +1,12 @@
 -- A line as it is kept stands for the whole line: up to 1,098 of its characters, and whether there were more.
 use mathlib.Core.Path.{_≡_, refl, sym, ap, subst, _∙_}
-use mathlib.Core.Bool.{Bool, true, false, cond, not, _&&_}
+use mathlib.Core.Bool.{Bool, true, false, not, _&&_}
 use mathlib.Core.List.{List, [], _∷_, _++_, append-nil, append-assoc}
 use mathlib.Core.Logic.{⊎-elim}
-use Prim.Native.Nat.{ℕ, suc, _+_, _≤_, _<_}
+use Prim.Native.Nat.{ℕ, _+_, _≤_, _<_}
 use native.Mathlib.Numerals.{add-one}
 use native.Mathlib.Omega.{arith}
-use lib.Dec.{ltb, leb}
+use lib.Dec.{ltb}
 use lib.ListN.{length, take, set, length-replicate, length-append, length-take, length-set}
 use lib.Seq.{take-all, take-append-le, take-suc-set}
 use borrow.Author.Tests.{lt-ltb, le-ltb, le-leb, lt-leb}
@@ -17,7 +17,6 @@ use Rattle.lines.specs.Replies.{isRecordLine}
 use Rattle.lines.specs.Replay.{pushed, pushedAll, blank, characters, isRecord, isBegun}
 use Rattle.lines.specs.Parts.{replyOf, lineReply, textReply}
 use Rattle.lines.specs.declared.Line.{Line}
-use Rattle.lines.specs.declared.Reply.{Reply}
 use Rattle.lines.proofs.Texts.{no-reply-of, not-when-over, begun-some-of, begun-by-over}
 use Rattle.lines.proofs.Newlines.{push-kept, push-over}
 

@@ -1,9 +1,9 @@
 -- Texts and answers in the arms of the code.
-use mathlib.Core.Path.{_≡_, refl, sym, ap, _∙_}
-use mathlib.Core.Bool.{Bool, true, false, cond, not, _&&_, _||_}
+use mathlib.Core.Path.{_≡_, sym, ap, _∙_}
+use mathlib.Core.Bool.{Bool, true, false, not, _&&_, _||_}
 use mathlib.Core.List.{List, [], _∷_, _++_, append-nil}
 use mathlib.Core.Logic.{⊎-elim}
-use Prim.Native.Nat.{ℕ, _+_, _-_, _*_, _/_, _≤_, _<_}
+use Prim.Native.Nat.{ℕ, _+_, _-_, _/_, _≤_, _<_}
 use native.Mathlib.Omega.{arith}
 use lib.Dec.{eqb, ltb, leb}
 use lib.IntN.{ℤ}
@@ -17,7 +17,6 @@ use Rattle.integers.specs.Fill.{tabulate-length}
 use Rattle.digits.specs.Digits.{digitAt, sampleLine, pairValue, bytesOf, arePairs, pairsOf}
 use Rattle.decoder.specs.Decoder.{answerOf, firstNumber, samplesOf}
 use Rattle.decoder.specs.declared.Answer.{Answer}
-use Rattle.counts.specs.Counts.{counted}
 use Rattle.state.specs.State.{freshState}
 use Rattle.state.specs.declared.State.{State}
 use Rattle.lines.specs.Replies.{silence, refusalLine, numberFor, stateFor, textFor, isRecordLine}

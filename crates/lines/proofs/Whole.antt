@@ -1,27 +1,26 @@
 -- The program's calls give the whole output: the theorem of specs/Whole.antt.
 use mathlib.Core.Path.{_≡_, refl, sym, ap, subst, _∙_}
-use mathlib.Core.Bool.{Bool, true, false, cond}
+use mathlib.Core.Bool.{true, false}
 use mathlib.Core.List.{List, [], _∷_, _++_, append-assoc, append-nil}
 use mathlib.Core.Logic.{⊎-elim}
 use Prim.Native.Nat.{ℕ, _+_, _≤_, _<_, min}
 use native.Mathlib.Omega.{arith}
-use lib.Dec.{eqb, ltb}
+use lib.Dec.{eqb}
 use lib.ListN.{length, take, getD, replicate, length-replicate, getD-replicate, List·getD-eq-default}
 use borrow.Author.Tests.{lt-ltb, le-ltb}
 use Rattle.integers.specs.Natural.{le-or-lt}
 use Rattle.digits.specs.Digits.{bytesOf}
-use Rattle.counts.specs.Counts.{howMany, most, counted, Closes}
+use Rattle.counts.specs.Counts.{most, counted, Closes}
 use Rattle.state.specs.State.{freshState}
 use Rattle.state.specs.declared.State.{State}
 use Rattle.lines.specs.Replies.{isRecordLine, lineNumber, lineState, lineText}
-use Rattle.lines.specs.Output.{linesFrom, linesOf, textFrom, numbersFrom, answersTo, countOf, IsOutput}
-use Rattle.lines.specs.Replay.{pushed, blank, characters, isRecord, isBegun, textOf, freshReplay, saidNumber, saidLine, nextLine, withByte, after, said, endedOf, finished}
+use Rattle.lines.specs.Output.{linesFrom, linesOf, textFrom, numbersFrom, answersTo, countOf}
+use Rattle.lines.specs.Replay.{pushed, blank, characters, isRecord, isBegun, textOf, freshReplay, saidNumber, saidLine, nextLine, after, said, endedOf, finished}
 use Rattle.lines.specs.Parts.{replyOf}
-use Rattle.lines.specs.Whole.{written, piecesText, piecesReplay, joined, lastFed, OutputOfPieces}
+use Rattle.lines.specs.Whole.{written, piecesText, joined, lastFed, OutputOfPieces}
 use Rattle.lines.specs.declared.Line.{Line}
 use Rattle.lines.specs.declared.Replay.{Replay}
 use Rattle.lines.specs.declared.Reply.{Reply}
-use Rattle.lines.specs.declared.Text.{Text}
 use Rattle.lines.specs.declared.Fed.{Fed}
 use Rattle.digits.proofs.Characters.{either}
 use Rattle.lines.proofs.Feeding.{withLine, byte-ends, byte-pushed}
@@ -82,14 +81,11 @@ after-char : (r : Replay) (b : ℕ) (xs : List ℕ) → eqb b 10 ≡ false → a
 unfolding after
 after-char r b xs h = ap (λ (q : Replay). after q xs) (byte-pushed r b h)
 
--- what is said of lines, and how they are counted
-abbrev saidOf : State → List (List ℕ) → List ℕ
-saidOf s ls = textFrom s ls
-
+-- the tallies after lines
 abbrev countedOf : List ℕ → State → List (List ℕ) → List ℕ
 countedOf ts s ls = countedAll ts (numbersFrom s ls)
 
-said-cons : (s : State) (l : List ℕ) (ls : List (List ℕ)) → saidOf s (l ∷ ls) ≡ lineText s l ++ saidOf (lineState s l) ls
+said-cons : (s : State) (l : List ℕ) (ls : List (List ℕ)) → textFrom s (l ∷ ls) ≡ lineText s l ++ textFrom (lineState s l) ls
 unfolding textFrom
 said-cons s l ls = refl
 
@@ -97,7 +93,7 @@ counted-cons : (ts : List ℕ) (s : State) (l : List ℕ) (ls : List (List ℕ))
 unfolding countedAll numbersFrom
 counted-cons ts s l ls = refl
 
-none-said : (s : State) → saidOf s [] ≡ []
+none-said : (s : State) → textFrom s [] ≡ []
 unfolding textFrom
 none-said s = refl
 
@@ -136,7 +132,7 @@ comes-some r line k h =
     record {
       text =
           (λ i. nothing-said r [] (omega arith) i ++ written (f i)) ∙ ended-text r ∙ text-same r line k ∙ sym (append-nil (lineText s line))
-          ∙ ap (λ (l : List ℕ). lineText s line ++ l) (sym (none-said (lineState s line))) ∙ sym (said-cons s line []) ∙ ap (saidOf s) (sym (lines-last line h));
+          ∙ ap (λ (l : List ℕ). lineText s line ++ l) (sym (none-said (lineState s line))) ∙ sym (said-cons s line []) ∙ ap (textFrom s) (sym (lines-last line h));
       tallies =
           ap (λ (d : Fed). d .replay .tallies) f ∙ ended-tallies r ∙ ap (counted (r .tallies)) (number-same r line k)
           ∙ sym (none-counted (counted (r .tallies) (lineNumber s line)) (lineState s line)) ∙ sym (counted-cons (r .tallies) s line [])
@@ -148,7 +144,7 @@ comes-none r line k h =
     let b : isBegun (r .line) ≡ false = kept-begun (r .line) line k ∙ le-ltb 0 (length line) h in
     let f = ap finished (nothing-carried r [] (omega arith)) ∙ sym (finish-none r (textOf []) b refl) in
     record {
-      text = (λ i. nothing-said r [] (omega arith) i ++ written (f i)) ∙ sym (none-said (r .state)) ∙ ap (saidOf (r .state)) (sym (lines-none line h));
+      text = (λ i. nothing-said r [] (omega arith) i ++ written (f i)) ∙ sym (none-said (r .state)) ∙ ap (textFrom (r .state)) (sym (lines-none line h));
       tallies = ap (λ (d : Fed). d .replay .tallies) f ∙ sym (none-counted (r .tallies) (r .state)) ∙ ap (countedOf (r .tallies) (r .state)) (sym (lines-none line h));
     }
 
@@ -159,8 +155,8 @@ comes-end r line b xs k h c =
     record {
       text =
           (λ i. said-end r b xs h i ++ written (finished (after-end r b xs h i))) ∙ append-assoc (saidLine r) (said n xs) (written (finished (after n xs)))
-          ∙ (λ i. text-same r line k i ++ c .text i) ∙ ap (λ (q : State). lineText s line ++ saidOf q (linesFrom [] xs)) (state-same r line k)
-          ∙ sym (said-cons s line (linesFrom [] xs)) ∙ ap (saidOf s) (sym (lines-end line b xs h));
+          ∙ (λ i. text-same r line k i ++ c .text i) ∙ ap (λ (q : State). lineText s line ++ textFrom q (linesFrom [] xs)) (state-same r line k)
+          ∙ sym (said-cons s line (linesFrom [] xs)) ∙ ap (textFrom s) (sym (lines-end line b xs h));
       tallies =
           ap (λ (q : Replay). finished q .replay .tallies) (after-end r b xs h) ∙ c .tallies
           ∙ (λ i. countedOf ((next-tallies r ∙ ap (counted (r .tallies)) (number-same r line k)) i) (state-same r line k i) (linesFrom [] xs))
@@ -170,7 +166,7 @@ comes-end r line b xs k h c =
 comes-char : (r : Replay) (line : List ℕ) (b : ℕ) (xs : List ℕ) → eqb b 10 ≡ false
     → Comes (withLine r (pushed (r .line) b)) (line ++ (b ∷ [])) xs → Comes r line (b ∷ xs)
 comes-char r line b xs h c = record {
-  text = (λ i. said-char r b xs h i ++ written (finished (after-char r b xs h i))) ∙ c .text ∙ ap (saidOf (r .state)) (sym (lines-char line b xs h));
+  text = (λ i. said-char r b xs h i ++ written (finished (after-char r b xs h i))) ∙ c .text ∙ ap (textFrom (r .state)) (sym (lines-char line b xs h));
   tallies = ap (λ (q : Replay). finished q .replay .tallies) (after-char r b xs h) ∙ c .tallies ∙ ap (countedOf (r .tallies) (r .state)) (sym (lines-char line b xs h));
 }
 
@@ -221,7 +217,7 @@ output-of-pieces ps closing c =
     let p = pieces-replay freshReplay ps in
     let last : lastFed ps ≡ finished (after freshReplay input) = ap finished p in
     let said-all : piecesText freshReplay ps ++ written (lastFed ps) ≡ answersTo input =
-    (λ i. pieces-text freshReplay ps i ++ written (last i)) ∙ whole input .text ∙ ap (λ (q : State). saidOf q (linesOf input)) fresh-state in
+    (λ i. pieces-text freshReplay ps i ++ written (last i)) ∙ whole input .text ∙ ap (λ (q : State). textFrom q (linesOf input)) fresh-state in
     let counts : (n : ℕ) → getD (lastFed ps .replay .tallies) n 0 ≡ min (countOf input n) most = λ n. ap (λ (d : Fed). getD (d .replay .tallies) n 0) last ∙ counts-are input n in (
       closing,
       sym (append-assoc (piecesText freshReplay ps) (written (lastFed ps)) closing) ∙ ap (λ (l : List ℕ). l ++ closing) said-all,

@@ -1,11 +1,10 @@
-use mathlib.Core.Path.{_≡_, refl, ap, _∙_}
+use mathlib.Core.Path.{refl, ap, _∙_}
 use mathlib.Core.Bool.{_&&_}
 use Prim.Native.Nat.{ℕ, _+_, _-_, _*_, _%_}
 use native.Mathlib.Omega.{arith}
 use borrow.Author.Needs.{needs}
 use lib.Dec.{ltb}
 use lib.ListN.{length, getD}
-use Rattle.digits.specs.Digits.{digitCode}
 use Rattle.digits.proofs.Characters.{code-digit, code-value}
 use Rattle.digits.proofs.Reading.{Reading, reading-start, reading-next, reading-end, too-long}
 use Rattle.digits.proofs.digit_pairs.Statement.{statement}

@@ -1,16 +1,15 @@
 use mathlib.Core.Path.{_≡_, sym, ap, subst, _∙_}
 use Prim.Native.Nat.{ℕ, _%_}
-use native.Mathlib.Omega.{arith}
 use borrow.Author.Needs.{needs}
 use lib.Dec.{T}
 use lib.IntN.{ℤ, pos, natAbs, _+ℤ_}
-use lib.Signed.{nonNeg, _≤ℤ_}
+use lib.Signed.{nonNeg}
 use mir.Syntax.{w16, w32}
 use mir.Val.{Fits, SFits, toZ, ofZ}
 use Rattle.integers.specs.Base.{Is, up}
 use Rattle.integers.specs.Bound.{within-fits, within-num, within-add, fits-within}
 use Rattle.integers.specs.Expression.{is-arg, is-lit, is-cast, is-add, need-add}
-use Rattle.integers.specs.Linear.{line, line-add, line-fits, ≤-out}
+use Rattle.integers.specs.Linear.{line, line-add, line-fits}
 use Rattle.integers.specs.Signed.{signed, natural, widen}
 use Rattle.digits.proofs.sample_image.Statement.{statement}
 use Rattle.digits.proofs.sample_image.Tie as tie

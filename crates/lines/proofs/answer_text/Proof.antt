@@ -1,6 +1,5 @@
 use borrow.Author.Tests.{eq-eqb, ne-eqb}
 use Rattle.lines.proofs.Texts.{answer-samples, answer-number}
-use borrow.Author.Needs.{needs}
 use Rattle.lines.proofs.answer_text.Statement.{statement}
 use Rattle.lines.proofs.answer_text.Tie as tie
 

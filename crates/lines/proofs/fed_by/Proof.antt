@@ -1,4 +1,3 @@
-use borrow.Author.Needs.{needs}
 use Rattle.lines.proofs.fed_by.Statement.{statement}
 use Rattle.lines.proofs.fed_by.Tie as tie
 

@@ -4,7 +4,6 @@ use lib.Seq.{take-all, length-take-le}
 use mathlib.Core.List.{List}
 use Prim.Native.Nat.{ℕ}
 use Rattle.lines.specs.Parts.{textReply}
-use borrow.Author.Needs.{needs}
 use Rattle.lines.proofs.front_reply.Statement.{statement}
 use Rattle.lines.proofs.front_reply.Tie as tie
 

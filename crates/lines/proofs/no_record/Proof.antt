@@ -1,5 +1,4 @@
 use Rattle.lines.proofs.Texts.{no-reply}
-use borrow.Author.Needs.{needs}
 use Rattle.lines.proofs.no_record.Statement.{statement}
 use Rattle.lines.proofs.no_record.Tie as tie
 

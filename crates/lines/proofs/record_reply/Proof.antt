@@ -5,7 +5,6 @@ use mathlib.Core.Bool.{true}
 use mathlib.Core.List.{List}
 use Prim.Native.Nat.{ℕ}
 use Rattle.lines.specs.Parts.{replyOf}
-use borrow.Author.Needs.{needs}
 use Rattle.lines.proofs.record_reply.Statement.{statement}
 use Rattle.lines.proofs.record_reply.Tie as tie
 

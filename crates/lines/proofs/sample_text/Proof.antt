@@ -1,5 +1,4 @@
 use Rattle.lines.proofs.Texts.{full-text}
-use borrow.Author.Needs.{needs}
 use Rattle.lines.proofs.sample_text.Statement.{statement}
 use Rattle.lines.proofs.sample_text.Tie as tie
 
