@@ -6,25 +6,13 @@ use lib.Dec.{eqb}
 use lib.IntN.{ℤ, pos, negsuc, natAbs, _+ℤ_, _-ℤ_, _*ℤ_}
 use lib.Signed.{quotZ}
 use Rattle.integers.specs.Base.{floorDiv, limited, entry, tabulate}
-use Rattle.tables.specs.Constants.{lpcOrder, subframeSize, tiltKept, tiltParts, agcOne, agcMax, agcStep, agcBoost}
-use Rattle.tables.specs.Tables.{postfilterZeros, postfilterPoles}
-use Rattle.basicop.specs.Operators.{word16, mult16}
+use Rattle.tables.specs.Constants.{subframeSize, tiltKept, tiltParts, agcOne, agcMax, agcStep, agcBoost}
+use Rattle.basicop.specs.Operators.{word16}
 use Rattle.isqrt.specs.Root.{root}
 use Rattle.correlation.specs.Correlation.{correlation, energy}
-use Rattle.synthesis.specs.Synthesis.{poleZero, inputMemory, outputMemory}
+use Rattle.filters.specs.Filters.{lastTen}
+use Rattle.formant.specs.Formant.{zeros, poles, poleZero, outputMemory}
 use Rattle.postfilter.specs.declared.Postfilter.{Postfilter}
-
--- ---- the formant filter's coefficients (§3.8)
-
--- coefficients weighted by a table: those of its zeros, and of its poles
-abbrev pub weighted : List ℤ → List ℤ → List ℤ
-weighted a table = tabulate (λ i. mult16 (entry a i) (entry table i)) lpcOrder
-
-abbrev pub zeros : List ℤ → List ℤ
-zeros a = weighted a postfilterZeros
-
-abbrev pub poles : List ℤ → List ℤ
-poles a = weighted a postfilterPoles
 
 -- ---- tilt (eq. 49.1, 49.2)
 
@@ -103,7 +91,7 @@ module _ (m : Postfilter) (a y : List ℤ) where
   -- the memory after them
   unfoldable pub postfilterAfter : Postfilter
   postfilterAfter = record {
-    «num_mem» = inputMemory y;
+    «num_mem» = lastTen y;
     «den_mem» = outputMemory (zeros a) (poles a) y (m .«num_mem») (m .«den_mem»);
     «tilt_prev» = entry formantOf (subframeSize - 1);
     «tilt_k1» = tiltAfter;

@@ -1,14 +1,9 @@
 // Formant, tilt and gain of one subframe, with their memory, under the Rust's names (qdec.rs).
 ghost use mathlib.Core.Path.{_≡_};
-ghost use Prim.Native.Nat.{ℕ, _+_, _-_, _*_, _^_, _≤_, _<_};
-ghost use lib.IntN.{pos, natAbs, _+ℤ_, _*ℤ_};
-ghost use mir.Syntax.{w32};
-ghost use mir.Val.{SFits};
-ghost use Rattle.integers.specs.Base.{sumTo, entry, tabulate, Within, AllFit, Fills};
-ghost use Rattle.tables.specs.Tables.{postfilterZeros};
-ghost use Rattle.synthesis.specs.Synthesis.{inputs, poleZero, outputMemory};
-ghost use Rattle.postfilter.specs.Postfilter.{weighted, zeros, poles, tiltOf, smoothed, compensatedSample, compensated, gainTarget, towards, gainAfter, gainedSample, gained, filtered, postfilterAfter};
-use synthesis::Synthesised;
+ghost use Prim.Native.Nat.{_*_, _^_, _≤_};
+ghost use lib.IntN.{pos};
+ghost use Rattle.integers.specs.Base.{Within};
+ghost use Rattle.postfilter.specs.Postfilter.{tiltOf, smoothed, compensatedSample, compensated, gainTarget, towards, gainAfter, gainedSample, gained, filtered, postfilterAfter};
 
 // The Rust's PostfilterState.
 pub struct Postfilter {
@@ -29,92 +24,6 @@ pub struct Filtered {
 struct Gained {
     out: [i16; 60],
     gain: i32,
-}
-
-fn weighted_coefficients(a: [i16; 10], table: [i16; 10]) -> [i16; 10]
-    ensures { λ r. ⌜ r ≡ weighted a table ⌝ }
-{
-    let mut w = [0i16; 10];
-    let mut i: usize = 0;
-    while i < 10 {
-        w[i] = basicop::mult(a[i], table[i]);
-        i += 1;
-    }
-    w
-}
-
-// The memory before a subframe, the oldest sample first.
-fn oldest_first(mem: [i16; 10]) -> [i16; 70]
-    ensures { λ r. ⌜ Fills (λ m. entry mem (9 - m)) 70 r 10 ⌝ }
-{
-    let mut line = [0i16; 70];
-    let mut m: usize = 0;
-    while m < 10 {
-        line[m] = mem[9 - m];
-        m += 1;
-    }
-    line
-}
-
-// The inputs of a subframe and the ten before it, the oldest first.
-fn input_line(y: &[i16; 60], mem: [i16; 10]) -> [i16; 70]
-    ensures { λ r. ⌜ r ≡ tabulate (λ m. entry (inputs (now (y .entry)) mem 60) (69 - m)) 70 ⌝ }
-{
-    let mut line = oldest_first(mem);
-    let mut m: usize = 10;
-    while m < 70 {
-        line[m] = y[m - 10];
-        m += 1;
-    }
-    line
-}
-
-fn tap(sum: i32, w: i16, x: i16) -> i32
-    requires { ⌜ SFits w32 (sum +ℤ w *ℤ x) ⌝ }
-    ensures { λ r. ⌜ r ≡ sum +ℤ w *ℤ x ⌝ }
-{
-    sum + w as i32 * x as i32
-}
-
-// Sixty sums, each with one product more: the compiler makes several at once.
-fn tapped(sums: [i32; 60], w: i16, line: &[i16; 70], k: usize) -> [i32; 60]
-    requires { ⌜ k ≤ 9 ⌝ }
-    requires { ⌜ AllFit w32 (tabulate (λ n. entry sums n +ℤ w *ℤ entry (now line) (n + k)) 60) ⌝ }
-    ensures { λ r. ⌜ r ≡ tabulate (λ n. entry sums n +ℤ w *ℤ entry (now (line .entry)) (n + k)) 60 ⌝ }
-{
-    let mut out = [0i32; 60];
-    let mut n: usize = 0;
-    while n < 60 {
-        out[n] = tap(sums[n], w, line[n + k]);
-        n += 1;
-    }
-    out
-}
-
-// What the zeros predict for each sample. The table that weights them keeps it in 32 bits.
-fn zero_sums(w: [i16; 10], line: [i16; 70]) -> [i32; 60]
-    requires { ⌜ ((j : ℕ) → j < 10 → Within (natAbs (entry postfilterZeros j)) (entry w j)) ⌝ }
-    ensures { λ r. ⌜ r ≡ tabulate (λ n. sumTo (λ j. entry w j *ℤ entry line (n + (9 - j))) 10) 60 ⌝ }
-{
-    let mut sums = [0i32; 60];
-    let mut j: usize = 0;
-    while j < 10 {
-        let next = tapped(sums, w[j], &line, 9 - j);
-        sums = next;
-        j += 1;
-    }
-    sums
-}
-
-// The formant filter: what its zeros take away does not wait for its output, and is summed first.
-fn formant_subframe(a: [i16; 10], y: &[i16; 60], num: [i16; 10], den: [i16; 10]) -> Synthesised
-    ensures { λ r. ⌜ r .out ≡ poleZero (zeros a) (poles a) (now (y .entry)) num den ⌝ }
-    ensures { λ r. ⌜ r .mem ≡ outputMemory (zeros a) (poles a) (now (y .entry)) num den ⌝ }
-{
-    let z = weighted_coefficients(a, tables::postfilter_zero());
-    let p = weighted_coefficients(a, tables::postfilter_pole());
-    let less = zero_sums(z, input_line(y, num));
-    synthesis::pole_subframe(p, y, &less, den)
 }
 
 // The tilt of a subframe, truncated towards zero.
@@ -192,7 +101,7 @@ fn moved_gain(t: i32, g: i32) -> i32
 fn gained_sample(g: i32, z: i16) -> i16
     ensures { λ r. ⌜ r ≡ gainedSample g z ⌝ }
 {
-    synthesis::limited_sample((z as i64 * g as i64 * tables::AGC_BOOST + 32768) >> 16)
+    filters::limited_sample((z as i64 * g as i64 * tables::AGC_BOOST + 32768) >> 16)
 }
 
 fn gained_subframe(t: i32, gain: i32, z: &[i16; 60]) -> Gained
@@ -217,7 +126,7 @@ pub fn formant_agc_subframe(pf: Postfilter, a: [i16; 10], y: [i16; 60]) -> Filte
 {
     let num = pf.num_mem;
     let den = pf.den_mem;
-    let f = formant_subframe(a, &y, num, den);
+    let f = formant::formant_subframe(a, &y, num, den);
     let z = f.out;
     let r0 = correlation::energy_from(&y, 0, 60);
     let r1 = correlation::correlate(&y, 1, &y, 0, 59);
@@ -226,7 +135,7 @@ pub fn formant_agc_subframe(pf: Postfilter, a: [i16; 10], y: [i16; 60]) -> Filte
     let target = gain_target(r0, correlation::energy_from(&v, 0, 60));
     let g = gained_subframe(target, pf.agc_gain_q12, &v);
     let out = g.out;
-    let num_after = synthesis::last_ten(&y);
+    let num_after = filters::last_ten(&y);
     let den_after = f.mem;
     Filtered {
         out: out,

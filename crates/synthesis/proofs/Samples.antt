@@ -1,4 +1,4 @@
--- The samples of a subframe, one by one: before the first, a sample later, and the last ten, which are the memory after it. Synthesis, and a filter with zeros and poles, are poles over inputs in 8192ths.
+-- The samples of a subframe, one by one: before the first, a sample later, and the last ten, which are the memory after it. Synthesis, and the poles of a filter with zeros, are poles over inputs in 8192ths.
 use mathlib.Core.Path.{_≡_, refl, sym, ap, _∙_}
 use mathlib.Core.List.{List, _∷_}
 use Prim.Native.Nat.{ℕ, zero, suc, _+_, _-_, _≤_, _<_}
@@ -8,8 +8,9 @@ use lib.IntN.{ℤ, pos, _+ℤ_, _*ℤ_}
 use lib.ListN.{take}
 use Rattle.integers.specs.Base.{entry, tabulate}
 use Rattle.integers.specs.Fill.{tabulate-at, tabulate-ext}
+use Rattle.filters.specs.Filters.{lastTen}
 use Rattle.synthesis.specs.Synthesis.{prediction, rounded, driven, samples, synthesised, memoryAfter}
-use Rattle.synthesis.specs.Synthesis.{inputs, outputs, poleZero, inputMemory, outputMemory, difference, poleOutput, poleMemory}
+use Rattle.synthesis.specs.Synthesis.{difference, poleOutput, poleMemory}
 use Rattle.synthesis.proofs.Newest.{newest, step-tabulate}
 
 -- ---- poles over inputs in 8192ths
@@ -26,8 +27,8 @@ module _ (a : List ℤ) (v : ℕ → ℤ) (memory : List ℤ) where
   unfolding driven
   driven-step n = rw add-one
 
-  pub driven-last : inputMemory (subframe (driven a v memory)) ≡ take 10 (driven a v memory 60)
-  unfolding inputMemory
+  pub driven-last : lastTen (subframe (driven a v memory)) ≡ take 10 (driven a v memory 60)
+  unfolding lastTen
   driven-last =
       let step = step-tabulate (driven a v memory) driven-step 60 in
       sym (newest (driven a v memory) (subframe (driven a v memory)) 60 step 10 60 (omega arith) (omega arith))
@@ -100,45 +101,3 @@ module _ (a y less memory : List ℤ) where
   pub pole-memory-is : take 10 (driven a (entry differences) memory 60) ≡ poleMemory a y less memory
   unfolding poleMemory
   pole-memory-is = same-memory a (entry differences) memory passed (driven-zero a (difference y less) memory) passed-step
-
--- with what the zeros predict taken away they are the filter with zeros and poles
-module _ (zeros poles y num den : List ℤ) where
-  abbrev pub predictions : List ℤ
-  predictions = tabulate (λ n. prediction zeros (inputs y num n)) 60
-
-  outputs-zero : outputs zeros poles y num den 0 ≡ den
-  unfolding outputs
-  outputs-zero = refl
-
-  outputs-step : (n : ℕ) → n < 60 → let passed = outputs zeros poles y num den n in
-      outputs zeros poles y num den (suc n) ≡ rounded (difference y predictions n +ℤ prediction poles passed) ∷ passed
-  unfolding outputs
-  outputs-step n h = let read = tabulate-at (λ n. prediction zeros (inputs y num n)) 60 n (pos 0) h in rw read refl
-
-  pub pole-zero-output : poleOutput poles y predictions den ≡ poleZero zeros poles y num den
-  unfolding poleOutput poleZero
-  pole-zero-output = same-subframe poles (difference y predictions) den (outputs zeros poles y num den) outputs-zero outputs-step
-
-  pub pole-zero-memory : poleMemory poles y predictions den ≡ outputMemory zeros poles y num den
-  unfolding poleMemory outputMemory
-  pole-zero-memory = same-memory poles (difference y predictions) den (outputs zeros poles y num den) outputs-zero outputs-step
-
--- ---- inputs
-
-module _ (y memory : List ℤ) where
-  pub inputs-zero : inputs y memory 0 ≡ memory
-  unfolding inputs
-  inputs-zero = refl
-
-  -- an input stands k places further back k samples later
-  pub inputs-shift : (n k i m j : ℕ) → m ≡ k + n → j ≡ k + i → entry (inputs y memory m) j ≡ entry (inputs y memory n) i
-  unfolding inputs
-  inputs-shift n zero i m j e f = let p : m ≡ n = omega arith in let q : j ≡ i = omega arith in λ t. entry (inputs y memory (p t)) (q t)
-  inputs-shift n (suc k) i m j e f =
-      let p : m ≡ suc (k + n) = omega arith in
-      let q : j ≡ suc (k + i) = omega arith in
-      (λ t. entry (inputs y memory (p t)) (q t)) ∙ inputs-shift n k i (k + n) (k + i) refl refl
-
-  pub inputs-newest : (n : ℕ) → entry (inputs y memory (suc n)) 0 ≡ entry y n
-  unfolding inputs
-  inputs-newest n = refl

@@ -8,8 +8,7 @@ ghost use lib.ListN.{take};
 ghost use mir.Syntax.{w16};
 ghost use mir.Val.{SFits};
 ghost use Rattle.integers.specs.Base.{entry, tabulate, Within, AllWithin, AllFit};
-ghost use Rattle.basicop.specs.Operators.{word16};
-ghost use Rattle.synthesis.specs.Synthesis.{prediction, rounded, driven, synthesised, memoryAfter, difference, poleOutput, poleMemory, inputMemory};
+ghost use Rattle.synthesis.specs.Synthesis.{prediction, rounded, driven, synthesised, memoryAfter, difference, poleOutput, poleMemory};
 
 // A subframe, and the memory after it.
 pub struct Synthesised {
@@ -71,43 +70,12 @@ fn remembered(mem: [i64; 10], y: i16) -> [i64; 10]
     ]
 }
 
-// The last ten of a subframe, the most recent first.
-pub fn last_ten(y: &[i16; 60]) -> [i16; 10]
-    ensures { λ r. ⌜ r ≡ inputMemory (now (y .entry)) ⌝ }
-{
-    [
-        y[59],
-        y[58],
-        y[57],
-        y[56],
-        y[55],
-        y[54],
-        y[53],
-        y[52],
-        y[51],
-        y[50],
-    ]
-}
-
-// A number limited to 16 bits at once: limited to 32 first it takes two more tests a sample.
-pub fn limited_sample(q: i64) -> i16
-    ensures { λ r. ⌜ r ≡ word16 q ⌝ }
-{
-    if q > 32767 {
-        32767
-    } else if q < -32768 {
-        -32768
-    } else {
-        q as i16
-    }
-}
-
 // Back from 8192ths to a sample.
 fn rounded_sample(acc: i64) -> i16
     requires { ⌜ Within (2 ^ 45) acc ⌝ }
     ensures { λ r. ⌜ r ≡ rounded acc ⌝ }
 {
-    limited_sample((acc + 4096) >> 13)
+    filters::limited_sample((acc + 4096) >> 13)
 }
 
 // One sample, of an input in 8192ths.
@@ -136,7 +104,7 @@ fn driven_subframe(a: [i16; 10], x: &[i64; 60], mem: [i16; 10]) -> Synthesised
         m = next;
         n += 1;
     }
-    let after = last_ten(&out);
+    let after = filters::last_ten(&out);
     Synthesised {
         out: out,
         mem: after,

@@ -8,7 +8,8 @@ use Rattle.integers.specs.Base.{entry, Fills}
 use Rattle.integers.specs.Signed.{back, read-back, all-fit}
 use Rattle.integers.specs.Expression.{is-mag, within-is}
 use Rattle.integers.specs.Fill.{fills-start, fills-next, fills-end}
-use Rattle.synthesis.specs.Synthesis.{rounded, driven, inputMemory}
+use Rattle.filters.specs.Filters.{lastTen}
+use Rattle.synthesis.specs.Synthesis.{rounded, driven}
 use Rattle.synthesis.proofs.Memories.{Remembers, memory-start, memory-step, memory-prediction}
 use Rattle.synthesis.proofs.Samples.{subframe, driven-zero, driven-step, driven-last}
 use Rattle.synthesis.proofs.driven_subframe.Statement.{statement}
@@ -82,7 +83,7 @@ returns c =
     let a = l .before .before .args in
     let v : ℕ → ℤ = entry (a .x .now) in
     let out = fills-end (l .loop .inv .0) (omega arith) ∙ ap (λ (m : List ℤ). subframe (driven (a .a) v m)) (l .before .widened .ensures) in
-    (out, c .last-ten .ensures ∙ ap inputMemory out ∙ driven-last (a .a) v (a .mem))
+    (out, c .last-ten .ensures ∙ ap lastTen out ∙ driven-last (a .a) v (a .mem))
 
 pub driven-subframe-spec : {M : Type 1} → statement M
 driven-subframe-spec =
