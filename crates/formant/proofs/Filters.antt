@@ -1,37 +1,19 @@
--- The filter with zeros and poles: its poles, with what the zeros predict taken away; and its inputs, where each stands.
-use mathlib.Core.Path.{_≡_, refl, _∙_}
-use mathlib.Core.List.{List, _∷_}
+-- The inputs of the filter, where each stands, and what its poles get.
+use mathlib.Core.Path.{_≡_, refl, ap, _∙_}
+use mathlib.Core.List.{List}
 use Prim.Native.Nat.{ℕ, zero, suc, _+_, _<_}
 use native.Mathlib.Omega.{arith}
-use lib.IntN.{ℤ, pos, _+ℤ_}
+use lib.IntN.{ℤ, pos, _-ℤ_, _*ℤ_}
 use Rattle.integers.specs.Base.{entry, tabulate}
 use Rattle.integers.specs.Fill.{tabulate-at}
-use Rattle.synthesis.specs.Synthesis.{prediction, rounded, difference, poleOutput, poleMemory}
-use Rattle.synthesis.proofs.Samples.{same-subframe, same-memory}
-use Rattle.formant.specs.Formant.{inputs, outputs, poleZero, outputMemory}
+use Rattle.synthesis.specs.Synthesis.{prediction, difference}
+use Rattle.formant.specs.Formant.{zeros, inputs, afterZeros}
 
-module _ (zeros poles y num den : List ℤ) where
-  abbrev pub predictions : List ℤ
-  predictions = tabulate (λ n. prediction zeros (inputs y num n)) 60
-
-  outputs-zero : outputs zeros poles y num den 0 ≡ den
-  unfolding outputs
-  outputs-zero = refl
-
-  outputs-step : (n : ℕ) → n < 60 → let passed = outputs zeros poles y num den n in
-      outputs zeros poles y num den (suc n) ≡ rounded (difference y predictions n +ℤ prediction poles passed) ∷ passed
-  unfolding outputs
-  outputs-step n h = let read = tabulate-at (λ n. prediction zeros (inputs y num n)) 60 n (pos 0) h in rw read refl
-
-  pub pole-zero-output : poleOutput poles y predictions den ≡ poleZero zeros poles y num den
-  unfolding poleOutput poleZero
-  pole-zero-output = same-subframe poles (difference y predictions) den (outputs zeros poles y num den) outputs-zero outputs-step
-
-  pub pole-zero-memory : poleMemory poles y predictions den ≡ outputMemory zeros poles y num den
-  unfolding poleMemory outputMemory
-  pole-zero-memory = same-memory poles (difference y predictions) den (outputs zeros poles y num den) outputs-zero outputs-step
-
--- ---- inputs
+-- with what the zeros predict read from a list
+pub predictions-read : (a y num : List ℤ) {l : List ℤ} → l ≡ tabulate (λ n. prediction (zeros a) (inputs y num n)) 60 →
+    (n : ℕ) → n < 60 → difference y l n ≡ afterZeros a y num n
+predictions-read a y num e n h =
+    ap (λ (z : ℤ). entry y n *ℤ pos 8192 -ℤ z) (ap (λ (q : List ℤ). entry q n) e ∙ tabulate-at (λ n. prediction (zeros a) (inputs y num n)) 60 n (pos 0) h)
 
 module _ (y memory : List ℤ) where
   pub inputs-zero : inputs y memory 0 ≡ memory

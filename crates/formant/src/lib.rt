@@ -6,7 +6,7 @@ ghost use mir.Syntax.{w32};
 ghost use mir.Val.{SFits};
 ghost use Rattle.integers.specs.Base.{sumTo, entry, tabulate, Within, AllFit, Fills};
 ghost use Rattle.tables.specs.Tables.{postfilterZeros};
-ghost use Rattle.formant.specs.Formant.{weighted, zeros, poles, inputs, poleZero, outputMemory};
+ghost use Rattle.formant.specs.Formant.{weighted, inputs, formant, formantMemory};
 use synthesis::Synthesised;
 
 fn weighted_coefficients(a: [i16; 10], table: [i16; 10]) -> [i16; 10]
@@ -86,8 +86,8 @@ fn zero_sums(w: [i16; 10], line: [i16; 70]) -> [i32; 60]
 
 // What the zeros take away does not wait for the output, and is summed first.
 pub fn formant_subframe(a: [i16; 10], y: &[i16; 60], num: [i16; 10], den: [i16; 10]) -> Synthesised
-    ensures { λ r. ⌜ r .out ≡ poleZero (zeros a) (poles a) (now (y .entry)) num den ⌝ }
-    ensures { λ r. ⌜ r .mem ≡ outputMemory (zeros a) (poles a) (now (y .entry)) num den ⌝ }
+    ensures { λ r. ⌜ r .out ≡ formant a (now (y .entry)) num den ⌝ }
+    ensures { λ r. ⌜ r .mem ≡ formantMemory a (now (y .entry)) num den ⌝ }
 {
     let z = weighted_coefficients(a, tables::postfilter_zero());
     let p = weighted_coefficients(a, tables::postfilter_pole());

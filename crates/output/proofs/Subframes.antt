@@ -7,7 +7,7 @@ use lib.IntN.{ℤ}
 use Rattle.integers.specs.Natural.{cond-elim}
 use Rattle.integers.specs.Truth.{choice-off, choice-on}
 use Rattle.integers.specs.Fill.{tabulate-length}
-use Rattle.synthesis.specs.Synthesis.{synthesised, memoryAfter}
+use Rattle.synthesis.specs.Synthesis.{synthesised, memoryAfter, drivenSubframe}
 use Rattle.postfilter.specs.Postfilter.{filtered, postfilterAfter, gained}
 use Rattle.postfilter.specs.declared.Postfilter.{Postfilter}
 use Rattle.output.specs.Output.{synthesisOf, subframeHeard, filtersAfter}
@@ -44,7 +44,7 @@ module _ (on : Bool) (a x : List ℤ) (f : Filters) where
 -- ---- it has sixty samples
 
 synthesised-length : (a x memory : List ℤ) → length (synthesised a x memory) ≡ 60
-unfolding synthesised
+unfolding drivenSubframe
 synthesised-length a x memory = tabulate-length _ 60
 
 gained-length : (t g : ℤ) (z : List ℤ) → length (gained t g z) ≡ 60

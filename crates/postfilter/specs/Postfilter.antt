@@ -11,7 +11,7 @@ use Rattle.basicop.specs.Operators.{word16}
 use Rattle.isqrt.specs.Root.{root}
 use Rattle.correlation.specs.Correlation.{correlation, energy}
 use Rattle.filters.specs.Filters.{lastTen}
-use Rattle.formant.specs.Formant.{zeros, poles, poleZero, outputMemory}
+use Rattle.formant.specs.Formant.{formant, formantMemory}
 use Rattle.postfilter.specs.declared.Postfilter.{Postfilter}
 
 -- ---- tilt (eq. 49.1, 49.2)
@@ -73,7 +73,7 @@ gained t g z = tabulate (λ n. gainedSample (gainAfter t g (n + 1)) (entry z n))
 module _ (m : Postfilter) (a y : List ℤ) where
   -- what the formant filter makes of it, the tilt, what the tilt makes of that, and the gain to move to
   abbrev pub formantOf : List ℤ
-  formantOf = poleZero (zeros a) (poles a) y (m .«num_mem») (m .«den_mem»)
+  formantOf = formant a y (m .«num_mem») (m .«den_mem»)
 
   abbrev pub tiltAfter : ℤ
   tiltAfter = smoothed (m .«tilt_k1») (tilt y)
@@ -92,7 +92,7 @@ module _ (m : Postfilter) (a y : List ℤ) where
   unfoldable pub postfilterAfter : Postfilter
   postfilterAfter = record {
     «num_mem» = lastTen y;
-    «den_mem» = outputMemory (zeros a) (poles a) y (m .«num_mem») (m .«den_mem»);
+    «den_mem» = formantMemory a y (m .«num_mem») (m .«den_mem»);
     «tilt_prev» = entry formantOf (subframeSize - 1);
     «tilt_k1» = tiltAfter;
     «agc_gain_q12» = gainAfter targetOf (m .«agc_gain_q12») subframeSize;

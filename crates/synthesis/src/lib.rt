@@ -2,13 +2,13 @@
 // postfilter. Memories are sixteen bits by type.
 ghost use mathlib.Core.Path.{_≡_};
 ghost use mathlib.Core.List.{_∷_};
-ghost use Prim.Native.Nat.{_+_, _*_, _^_};
+ghost use Prim.Native.Nat.{_*_, _^_};
 ghost use lib.IntN.{pos, _+ℤ_, _-ℤ_, _*ℤ_};
 ghost use lib.ListN.{take};
 ghost use mir.Syntax.{w16};
 ghost use mir.Val.{SFits};
 ghost use Rattle.integers.specs.Base.{entry, tabulate, Within, AllWithin, AllFit};
-ghost use Rattle.synthesis.specs.Synthesis.{prediction, rounded, driven, synthesised, memoryAfter, difference, poleOutput, poleMemory};
+ghost use Rattle.synthesis.specs.Synthesis.{prediction, rounded, drivenSubframe, drivenMemory, excited, synthesised, memoryAfter, difference};
 
 // A subframe, and the memory after it.
 pub struct Synthesised {
@@ -91,8 +91,8 @@ fn sample(a: [i16; 10], x: i64, mem: [i64; 10]) -> i16
 // A subframe, of inputs in 8192ths: all that does not wait for the sample before it is done before.
 fn driven_subframe(a: [i16; 10], x: &[i64; 60], mem: [i16; 10]) -> Synthesised
     requires { ⌜ AllWithin (2 ^ 44) (now x) ⌝ }
-    ensures { λ r. ⌜ r .out ≡ tabulate (λ n. entry (driven a (entry (now (x .entry))) mem (n + 1)) 0) 60 ⌝ }
-    ensures { λ r. ⌜ r .mem ≡ take 10 (driven a (entry (now (x .entry))) mem 60) ⌝ }
+    ensures { λ r. ⌜ r .out ≡ drivenSubframe a (entry (now (x .entry))) mem ⌝ }
+    ensures { λ r. ⌜ r .mem ≡ drivenMemory a (entry (now (x .entry))) mem ⌝ }
 {
     let mut m = widened(mem);
     let mut out = [0i16; 60];
@@ -119,7 +119,7 @@ fn scaled_input(x: i32) -> i64
 
 // The inputs of synthesis in 8192ths.
 fn scaled_inputs(x: &[i32; 60]) -> [i64; 60]
-    ensures { λ r. ⌜ r ≡ tabulate (λ n. entry (now (x .entry)) n *ℤ pos 8192) 60 ⌝ }
+    ensures { λ r. ⌜ r ≡ tabulate (excited (now (x .entry))) 60 ⌝ }
     ensures { λ r. ⌜ AllWithin (2 ^ 44) r ⌝ }
 {
     let mut v = [0i64; 60];
@@ -161,8 +161,8 @@ fn inputs_less(y: &[i16; 60], less: &[i32; 60]) -> [i64; 60]
 
 // The poles of a filter over one subframe; `less` is what its zeros take away, in 8192ths.
 pub fn pole_subframe(a: [i16; 10], y: &[i16; 60], less: &[i32; 60], mem: [i16; 10]) -> Synthesised
-    ensures { λ r. ⌜ r .out ≡ poleOutput a (now (y .entry)) (now (less .entry)) mem ⌝ }
-    ensures { λ r. ⌜ r .mem ≡ poleMemory a (now (y .entry)) (now (less .entry)) mem ⌝ }
+    ensures { λ r. ⌜ r .out ≡ drivenSubframe a (difference (now (y .entry)) (now (less .entry))) mem ⌝ }
+    ensures { λ r. ⌜ r .mem ≡ drivenMemory a (difference (now (y .entry)) (now (less .entry))) mem ⌝ }
 {
     let v = inputs_less(y, less);
     driven_subframe(a, &v, mem)

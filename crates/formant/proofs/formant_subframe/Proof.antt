@@ -6,9 +6,10 @@ use mir.Syntax.{w16}
 use Rattle.integers.specs.Base.{entry, Within, AllFit}
 use Rattle.integers.specs.Signed.{all-fit}
 use Rattle.tables.specs.Tables.{postfilterZeros}
-use Rattle.synthesis.specs.Synthesis.{poleOutput, poleMemory}
+use Rattle.synthesis.specs.Synthesis.{difference, drivenSubframe, drivenMemory}
+use Rattle.synthesis.proofs.Samples.{same-subframe, same-memory}
 use Rattle.formant.specs.Formant.{weighted, zeros, poles}
-use Rattle.formant.proofs.Filters.{pole-zero-output, pole-zero-memory}
+use Rattle.formant.proofs.Filters.{predictions-read}
 use Rattle.formant.proofs.Zeros.{sums, weighted-within, sums-prediction}
 use Rattle.formant.proofs.formant_subframe.Statement.{statement}
 use Rattle.formant.proofs.formant_subframe.Tie as tie
@@ -54,9 +55,11 @@ returns c =
     let y = a .y .now in
     let line = t .before .input-line .ensures in
     let less = t .zero-sums .ensures ∙ (λ i. sums (zeros-is w i) (line i) 10) ∙ sums-prediction y (a .num) (zeros (a .a)) in
+    let v = predictions-read (a .a) y (a .num) less in
+    let passed = difference y (t .zero-sums .result) in
     let r = c .pole-subframe .ensures in (
-      r .0 ∙ (λ i. poleOutput (poles-is p i) y (less i) (a .den)) ∙ pole-zero-output (zeros (a .a)) (poles (a .a)) y (a .num) (a .den),
-      r .1 ∙ (λ i. poleMemory (poles-is p i) y (less i) (a .den)) ∙ pole-zero-memory (zeros (a .a)) (poles (a .a)) y (a .num) (a .den),
+      r .0 ∙ ap (λ (q : List ℤ). drivenSubframe q passed (a .den)) (poles-is p) ∙ same-subframe (poles (a .a)) (a .den) v,
+      r .1 ∙ ap (λ (q : List ℤ). drivenMemory q passed (a .den)) (poles-is p) ∙ same-memory (poles (a .a)) (a .den) v,
     )
 
 pub formant-subframe-spec : {M : Type 1} → statement M

@@ -9,9 +9,9 @@ use Rattle.integers.specs.Signed.{back, read-back, all-fit}
 use Rattle.integers.specs.Expression.{is-mag, within-is}
 use Rattle.integers.specs.Fill.{fills-start, fills-next, fills-end}
 use Rattle.filters.specs.Filters.{lastTen}
-use Rattle.synthesis.specs.Synthesis.{rounded, driven}
+use Rattle.synthesis.specs.Synthesis.{rounded, driven, drivenSubframe}
 use Rattle.synthesis.proofs.Memories.{Remembers, memory-start, memory-step, memory-prediction}
-use Rattle.synthesis.proofs.Samples.{subframe, driven-zero, driven-step, driven-last}
+use Rattle.synthesis.proofs.Samples.{driven-zero, driven-step, driven-last}
 use Rattle.synthesis.proofs.driven_subframe.Statement.{statement}
 use Rattle.synthesis.proofs.driven_subframe.Tie as tie
 
@@ -78,11 +78,12 @@ last-ten-requires : tie.Need-last-ten-requires Inv-loop μ-loop
 last-ten-requires c κs = tt
 
 returns : tie.Need-returns Inv-loop μ-loop
+unfolding drivenSubframe
 returns c =
     let l = c .before .before .before in
     let a = l .before .before .args in
     let v : ℕ → ℤ = entry (a .x .now) in
-    let out = fills-end (l .loop .inv .0) (omega arith) ∙ ap (λ (m : List ℤ). subframe (driven (a .a) v m)) (l .before .widened .ensures) in
+    let out = fills-end (l .loop .inv .0) (omega arith) ∙ ap (λ (m : List ℤ). drivenSubframe (a .a) v m) (l .before .widened .ensures) in
     (out, c .last-ten .ensures ∙ ap lastTen out ∙ driven-last (a .a) v (a .mem))
 
 pub driven-subframe-spec : {M : Type 1} → statement M
