@@ -1,7 +1,9 @@
 // What a record is found to be: erased, High, Low, or refused with one of the numbers 3 to 10.
 ghost use mathlib.Core.Path.{_≡_};
+ghost use mathlib.Core.Bool.{_||_};
 ghost use lib.Dec.{ltb};
 ghost use Rattle.tables.specs.Constants.{gainIndexMax};
+ghost use Rattle.layout.specs.Layout.{byte};
 ghost use Rattle.record.specs.Record.{gainIndex};
 ghost use Rattle.refusals.specs.Refusals.{bytesOf, wrongLagCode, wrongStepCode, wrongGainIndex, wrongFlagsIn, wrongFlags, wrongSignsIn, wrongSigns, foundHigh, foundReceived, found};
 use excitation::Rate;
@@ -26,18 +28,30 @@ fn record_bytes(kind: u8) -> usize
     }
 }
 
+// A byte at one of two places is above a limit.
+fn either_above(record: &[u8], i: usize, j: usize, most: u8) -> bool
+    ensures { λ r. ⌜ r ≡ (ltb most (byte (now («record» .entry)) i) || ltb most (byte (now («record» .entry)) j)) ⌝ }
+{
+    layout::byte_at(record, i) > most || layout::byte_at(record, j) > most
+}
+
 fn lag_code_above(record: &[u8]) -> bool
     ensures { λ r. ⌜ r ≡ wrongLagCode (now («record» .entry)) ⌝ }
 {
-    layout::byte_at(record, 21) > tables::LAG_CODE_MAX
-        || layout::byte_at(record, 23) > tables::LAG_CODE_MAX
+    either_above(record, 21, 23, tables::LAG_CODE_MAX)
 }
 
 fn step_code_above(record: &[u8]) -> bool
     ensures { λ r. ⌜ r ≡ wrongStepCode (now («record» .entry)) ⌝ }
 {
-    layout::byte_at(record, 22) > tables::STEP_CODE_MAX
-        || layout::byte_at(record, 24) > tables::STEP_CODE_MAX
+    either_above(record, 22, 24, tables::STEP_CODE_MAX)
+}
+
+// A test holds in one of the four subframes.
+fn in_any(zero: bool, one: bool, two: bool, three: bool) -> bool
+    ensures { λ r. ⌜ r ≡ (zero || (one || (two || three))) ⌝ }
+{
+    zero || (one || (two || three))
 }
 
 fn gain_above(record: &[u8], rate: Rate, s: Subframe) -> bool
@@ -49,10 +63,12 @@ fn gain_above(record: &[u8], rate: Rate, s: Subframe) -> bool
 fn any_gain_above(record: &[u8], rate: Rate) -> bool
     ensures { λ r. ⌜ r ≡ wrongGainIndex rate (now («record» .entry)) ⌝ }
 {
-    gain_above(record, rate, Subframe::Zero)
-        || (gain_above(record, rate, Subframe::One)
-            || (gain_above(record, rate, Subframe::Two)
-                || gain_above(record, rate, Subframe::Three)))
+    in_any(
+        gain_above(record, rate, Subframe::Zero),
+        gain_above(record, rate, Subframe::One),
+        gain_above(record, rate, Subframe::Two),
+        gain_above(record, rate, Subframe::Three),
+    )
 }
 
 fn flags_wrong(record: &[u8], s: Subframe) -> bool
@@ -69,9 +85,12 @@ fn flags_wrong(record: &[u8], s: Subframe) -> bool
 fn any_flags_wrong(record: &[u8]) -> bool
     ensures { λ r. ⌜ r ≡ wrongFlags (now («record» .entry)) ⌝ }
 {
-    flags_wrong(record, Subframe::Zero)
-        || (flags_wrong(record, Subframe::One)
-            || (flags_wrong(record, Subframe::Two) || flags_wrong(record, Subframe::Three)))
+    in_any(
+        flags_wrong(record, Subframe::Zero),
+        flags_wrong(record, Subframe::One),
+        flags_wrong(record, Subframe::Two),
+        flags_wrong(record, Subframe::Three),
+    )
 }
 
 fn signs_wrong(record: &[u8], s: Subframe) -> bool
@@ -89,9 +108,12 @@ fn signs_wrong(record: &[u8], s: Subframe) -> bool
 fn any_signs_wrong(record: &[u8]) -> bool
     ensures { λ r. ⌜ r ≡ wrongSigns (now («record» .entry)) ⌝ }
 {
-    signs_wrong(record, Subframe::Zero)
-        || (signs_wrong(record, Subframe::One)
-            || (signs_wrong(record, Subframe::Two) || signs_wrong(record, Subframe::Three)))
+    in_any(
+        signs_wrong(record, Subframe::Zero),
+        signs_wrong(record, Subframe::One),
+        signs_wrong(record, Subframe::Two),
+        signs_wrong(record, Subframe::Three),
+    )
 }
 
 // Numbers 9 and 10.

@@ -1,4 +1,5 @@
-use Rattle.integers.specs.Truth.{or-here, or-there}
+use mathlib.Core.Path.{_∙_}
+use mathlib.Core.Bool.{_||_}
 use Rattle.refusals.proofs.any_flags_wrong.Statement.{statement}
 use Rattle.refusals.proofs.any_flags_wrong.Tie as tie
 
@@ -14,30 +15,15 @@ flags-wrong-requires-3 c κs = tt
 flags-wrong-requires-4 : tie.Need-flags-wrong-requires-4
 flags-wrong-requires-4 c κs = tt
 
+in-any-requires : tie.Need-in-any-requires
+in-any-requires c κs = tt
+
 returns : tie.Need-returns
-returns c = or-here _ (c .before .flags-wrong .ensures) (c .if1 .taken)
-
-returns-2 : tie.Need-returns-2
-returns-2 c =
-    let f = c .before .before in
-    or-there (f .before .flags-wrong .ensures) (f .if1 .left) (or-here _ (c .before .flags-wrong2 .ensures) (c .if2 .taken))
-
-returns-3 : tie.Need-returns-3
-returns-3 c =
-    let g = c .before .before in
-    let f = g .before .before in
-    or-there (f .before .flags-wrong .ensures) (f .if1 .left)
-    (or-there (g .before .flags-wrong2 .ensures) (g .if2 .left)
-    (or-here _ (c .before .flags-wrong3 .ensures) (c .if3 .taken)))
-
-returns-4 : tie.Need-returns-4
-returns-4 c =
-    let h = c .before in
-    let g = h .before .before in
-    let f = g .before .before in
-    or-there (f .before .flags-wrong .ensures) (f .if1 .left)
-    (or-there (g .before .flags-wrong2 .ensures) (g .if2 .left)
-    (or-there (h .before .flags-wrong3 .ensures) (h .if3 .left) (c .flags-wrong4 .ensures)))
+returns c =
+    let d = c .before in
+    let t = d .before in
+    let o = t .before in
+    c .in-any .ensures ∙ (λ i. o .before .flags-wrong .ensures i || (o .flags-wrong2 .ensures i || (t .flags-wrong3 .ensures i || d .flags-wrong4 .ensures i)))
 
 pub any-flags-wrong-spec : {M : Type 1} → statement M
 any-flags-wrong-spec =
@@ -47,7 +33,5 @@ any-flags-wrong-spec =
     flags-wrong-requires-2
     flags-wrong-requires-3
     flags-wrong-requires-4
-    returns
-    returns-2
-    returns-3
-    returns-4)
+    in-any-requires
+    returns)

@@ -1,4 +1,5 @@
-use Rattle.integers.specs.Truth.{or-here, or-there}
+use mathlib.Core.Path.{_∙_}
+use mathlib.Core.Bool.{_||_}
 use Rattle.refusals.proofs.any_signs_wrong.Statement.{statement}
 use Rattle.refusals.proofs.any_signs_wrong.Tie as tie
 
@@ -14,30 +15,15 @@ signs-wrong-requires-3 c κs = tt
 signs-wrong-requires-4 : tie.Need-signs-wrong-requires-4
 signs-wrong-requires-4 c κs = tt
 
+in-any-requires : tie.Need-in-any-requires
+in-any-requires c κs = tt
+
 returns : tie.Need-returns
-returns c = or-here _ (c .before .signs-wrong .ensures) (c .if1 .taken)
-
-returns-2 : tie.Need-returns-2
-returns-2 c =
-    let f = c .before .before in
-    or-there (f .before .signs-wrong .ensures) (f .if1 .left) (or-here _ (c .before .signs-wrong2 .ensures) (c .if2 .taken))
-
-returns-3 : tie.Need-returns-3
-returns-3 c =
-    let g = c .before .before in
-    let f = g .before .before in
-    or-there (f .before .signs-wrong .ensures) (f .if1 .left)
-    (or-there (g .before .signs-wrong2 .ensures) (g .if2 .left)
-    (or-here _ (c .before .signs-wrong3 .ensures) (c .if3 .taken)))
-
-returns-4 : tie.Need-returns-4
-returns-4 c =
-    let h = c .before in
-    let g = h .before .before in
-    let f = g .before .before in
-    or-there (f .before .signs-wrong .ensures) (f .if1 .left)
-    (or-there (g .before .signs-wrong2 .ensures) (g .if2 .left)
-    (or-there (h .before .signs-wrong3 .ensures) (h .if3 .left) (c .signs-wrong4 .ensures)))
+returns c =
+    let d = c .before in
+    let t = d .before in
+    let o = t .before in
+    c .in-any .ensures ∙ (λ i. o .before .signs-wrong .ensures i || (o .signs-wrong2 .ensures i || (t .signs-wrong3 .ensures i || d .signs-wrong4 .ensures i)))
 
 pub any-signs-wrong-spec : {M : Type 1} → statement M
 any-signs-wrong-spec =
@@ -47,7 +33,5 @@ any-signs-wrong-spec =
     signs-wrong-requires-2
     signs-wrong-requires-3
     signs-wrong-requires-4
-    returns
-    returns-2
-    returns-3
-    returns-4)
+    in-any-requires
+    returns)
