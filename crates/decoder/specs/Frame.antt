@@ -42,22 +42,23 @@ pitchInputs rate lagOf x = eachSubframe (λ s. postfiltered x rate (place s) (li
 
 -- ---- the end of a frame: its samples, and the next state
 
--- The frame's LSPs, its signal with the excitation, the inputs of its synthesis, and what is stored for erased frames (record_last_frame).
-module _ (s : State) (lsps signal : List ℤ) (inputs : List (List ℤ)) (last : LastFrame) where
-  -- the memories before it
-  abbrev pub filtersOf : Filters
-  filtersOf = record { «syn_mem» = s .«syn_mem»; pf = s .pf }
+-- the memories before it
+abbrev pub filtersOf : State → Filters
+filtersOf s = record { «syn_mem» = s .«syn_mem»; pf = s .pf }
 
+-- The frame's LSPs, and the inputs of its synthesis.
+module _ (s : State) (lsps : List ℤ) (inputs : List (List ℤ)) where
   -- its 240 samples
   abbrev pub frameSamples : List ℤ
-  frameSamples = frameHeard (s .postfilter) (frameCoefficients (s .«prev_lsp») lsps) inputs filtersOf
+  frameSamples = frameHeard (s .postfilter) (frameCoefficients (s .«prev_lsp») lsps) inputs (filtersOf s)
 
   -- the memories after it
   abbrev pub filtersLast : Filters
-  filtersLast = frameFilters (s .postfilter) (frameCoefficients (s .«prev_lsp») lsps) inputs filtersOf
+  filtersLast = frameFilters (s .postfilter) (frameCoefficients (s .«prev_lsp») lsps) inputs (filtersOf s)
 
-  unfoldable pub frameState : State
-  frameState = record {
+  -- the next state, with its signal and what is stored for erased frames (record_last_frame)
+  unfoldable pub frameState : List ℤ → LastFrame → State
+  frameState signal last = record {
     «prev_lsp» = lsps;
     «exc_hist» = historyAfter signal;
     «syn_mem» = filtersLast .«syn_mem»;
@@ -94,10 +95,10 @@ module _ (s : State) where
   }
 
   unfoldable pub erasedSamples : List ℤ
-  erasedSamples = frameSamples s erasedLsps erasedSignal (plainInputs erasedSignal) erasedLast
+  erasedSamples = frameSamples s erasedLsps (plainInputs erasedSignal)
 
   unfoldable pub erasedState : State
-  erasedState = frameState s erasedLsps erasedSignal (plainInputs erasedSignal) erasedLast
+  erasedState = frameState s erasedLsps (plainInputs erasedSignal) erasedSignal erasedLast
 
 -- ---- a received frame (decode_params), of the record r
 
@@ -131,7 +132,7 @@ module _ (s : State) (rate : Rate) (r : List ℕ) where
   }
 
   unfoldable pub receivedSamples : List ℤ
-  receivedSamples = frameSamples s receivedLsps receivedSignal receivedInputs receivedLast
+  receivedSamples = frameSamples s receivedLsps receivedInputs
 
   unfoldable pub receivedState : State
-  receivedState = frameState s receivedLsps receivedSignal receivedInputs receivedLast
+  receivedState = frameState s receivedLsps receivedInputs receivedSignal receivedLast

@@ -92,8 +92,8 @@ fn finish_frame(
 ) -> State
     requires { ⌜ length (now samples) ≡ 240 ⌝ }
     requires { ⌜ inBounds given ≡ true ⌝ }
-    ensures state { λ r. ⌜ r ≡ frameState given lsps signal inputs last ⌝ }
-    ensures samples { λ r. ⌜ now (samples .exit) ≡ frameSamples given lsps signal inputs last ⌝ }
+    ensures state { λ r. ⌜ r ≡ frameState given lsps inputs signal last ⌝ }
+    ensures samples { λ r. ⌜ now (samples .exit) ≡ frameSamples given lsps inputs ⌝ }
 {
     let prev = given.prev_lsp;
     let sets = lpc::frame_lpc_q13(prev, lsps);

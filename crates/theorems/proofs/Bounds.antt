@@ -51,12 +51,12 @@ record LastIn (last : LastFrame) : Type 0 where
 
 module _ (s : State) (h : inBounds s ≡ true) where
   frame-in : (lsps signal : List ℤ) (inputs : List (List ℤ)) (last : LastFrame) → WordsTo 386 signal → LastIn last →
-      inBounds (frameState s lsps signal inputs last) ≡ true
+      inBounds (frameState s lsps inputs signal last) ≡ true
   unfolding frameState
   frame-in lsps signal inputs last w l =
       let sets = frameCoefficients (s .«prev_lsp») lsps in
-      let before = filtersOf s lsps signal inputs last in
-      states.bounds-from (frameState s lsps signal inputs last)
+      let before = filtersOf s in
+      states.bounds-from (frameState s lsps inputs signal last)
       (history-words signal w)
       (memory-words (s .postfilter) sets inputs before)
       (record {

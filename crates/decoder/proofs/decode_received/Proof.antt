@@ -16,7 +16,7 @@ use Rattle.widths.specs.Widths.{frameSignal}
 use Rattle.state.specs.declared.State.{State}
 use Rattle.state.proofs.Bounds.{signal-narrowed}
 use Rattle.decoder.specs.Frame.{frameSamples, frameState, block, receivedTo}
-use Rattle.decoder.specs.Frame.{receivedLsps, receivedSignal, receivedInputs, receivedLast}
+use Rattle.decoder.specs.Frame.{receivedLsps, receivedSignal, receivedInputs}
 use Rattle.decoder.specs.Frame.{receivedSamples, receivedState}
 use Rattle.decoder.proofs.Fields.{field-length}
 use Rattle.decoder.proofs.Frames.{in-turn, inputs-same}
@@ -196,14 +196,14 @@ returns c =
     let sum = u .before .tap-sum in
     let gain = u .unvoiced-gain in
     let unvoiced : Block → Block → ℤ = λ p q. pos (unvoicedGain (p .gain) (q .gain)) in (
-      r .ensures .0 ∙ (λ i. frameState g (lsps-is l i) (x i) (inputs-is n i) record {
+      r .ensures .0 ∙ (λ i. frameState g (lsps-is l i) (inputs-is n i) (x i) record {
         «last_lag» = back w32 (t .before .struct-told5 .given .1 .0 .1) (λ j. b Three j .lag) i;
         «last_lag2» = back w32 (t .struct-told6 .given .1 .0 .1) (λ j. b Two j .lag) i;
         «last_taps_sum_q15» = back w32 (sum .ok) (sum .ensures ∙ (λ j. tapSum (b Three j .taps))) i;
         «last_gain_unvoiced» = back w32 (gain .ok) (gain .ensures ∙ (λ j. unvoiced (b Two j) (b Three j))) i;
         «erased_run» = 0;
       }),
-      r .ensures .1 ∙ (λ i. frameSamples g (lsps-is l i) (x i) (inputs-is n i) (receivedLast g (s .args .rate) (bytes s))),
+      r .ensures .1 ∙ (λ i. frameSamples g (lsps-is l i) (inputs-is n i)),
     )
 
 pub decode-received-spec : {M : Type 1} → statement M

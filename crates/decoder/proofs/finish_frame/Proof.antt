@@ -56,7 +56,7 @@ module _ (c : tie.After-output-frame) where
   abbrev before : Filters
   before = record { «syn_mem» = memory .narrow-memory .result; pf = start .args .given .pf }
 
-  heard-is : let a = start .args in heard ≡ frameSamples (a .given) (a .lsps) (a .t4) (a .inputs) (a .last)
+  heard-is : let a = start .args in heard ≡ frameSamples (a .given) (a .lsps) (a .inputs)
   heard-is =
       let a = start .args in
       let g = a .given in
@@ -64,7 +64,7 @@ module _ (c : tie.After-output-frame) where
       ∙ heard-in (g .postfilter) sets (a .inputs) before (a .samples .now) (start .pre .0)
       ∙ (λ i. frameHeard (g .postfilter) (sets-is i) (a .inputs) record { «syn_mem» = memory-is i; pf = g .pf })
 
-  filters-is : let a = start .args in c .output-frame .result ≡ filtersLast (a .given) (a .lsps) (a .t4) (a .inputs) (a .last)
+  filters-is : let a = start .args in c .output-frame .result ≡ filtersLast (a .given) (a .lsps) (a .inputs)
   filters-is =
       let a = start .args in
       let g = a .given in
