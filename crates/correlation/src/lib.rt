@@ -63,7 +63,6 @@ fn sum_of_products(x: &[i16], a: usize, y: &[i16], b: usize, n: usize) -> i64
     joined(high, low)
 }
 
-// The correlation of n samples of x from a and of y from b.
 pub fn correlate(x: &[i16], a: usize, y: &[i16], b: usize, n: u8) -> i64
     ensures { λ r. ⌜ r ≡ correlation (now (x .entry)) a (now (y .entry)) b n ⌝ }
     ensures { λ r. ⌜ Within (n * 2 ^ 30) r ⌝ }
@@ -73,7 +72,6 @@ pub fn correlate(x: &[i16], a: usize, y: &[i16], b: usize, n: u8) -> i64
     sum_of_products(x, a, y, b, k)
 }
 
-// The energy of n samples of x from a.
 pub fn energy_from(x: &[i16], a: usize, n: u8) -> u64
     ensures { λ r. ⌜ pos r ≡ energy (now (x .entry)) a n ⌝ }
     ensures { λ r. ⌜ r ≤ n * 2 ^ 30 ⌝ }

@@ -43,6 +43,6 @@ abbrev pub Closes : (ℕ → ℕ) → List ℕ → Type 0
 Closes count text =
     (order : List ℕ) × ((n : ℕ) → howMany n order ≡ cond (ltb 0 n && ltb 0 (count n)) 1 0) × (text ≡ countLines count order)
 
--- text at the start of the bytes of a closing, which are zeros after it
+-- text at the start of 275 bytes, room for eleven lines of 25, which are zeros after it
 abbrev pub closingText : List ℕ → Closing
 closingText l = record { bytes = l ++ replicate (275 - length l) 0; len = length l }

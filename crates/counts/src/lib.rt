@@ -32,7 +32,6 @@ pub fn count(tallies: [u64; 12], n: u8) -> [u64; 12]
     t
 }
 
-// One more byte of text.
 fn with_byte(c: Closing, b: u8) -> Closing
     requires { ⌜ c .len < 275 ⌝ }
     ensures { λ r. ⌜ ((l : List ℕ) → c ≡ closingText l → r ≡ closingText (l ++ (b ∷ []))) ⌝ }
@@ -81,7 +80,6 @@ fn number_closed(c: Closing, n: u8, count: u64) -> Closing
     with_byte(counted, 10)
 }
 
-// The closing lines.
 pub fn closing_lines(tallies: [u64; 12]) -> Closing
     ensures { λ r. ⌜ ((text : List ℕ) × (r ≡ closingText text) × Closes (λ n. getD tallies n 0) text) ⌝ }
 {

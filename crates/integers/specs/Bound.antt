@@ -11,7 +11,7 @@ use lib.Signed.{mag, shrZ, quotZ, natAbs-le}
 use mir.Syntax.{Width}
 use mir.Val.{SFits, hbits, toZ, ofZ}
 use mir.Facts.{toZ-ofZ}
-use Rattle.integers.specs.Base.{Within, AllWithin, AllFit, entry, tabulate}
+use Rattle.integers.specs.Base.{Within, AllWithin, entry, tabulate}
 use Rattle.integers.specs.Natural.{cond-elim}
 
 -- ---- absolute values
@@ -114,16 +114,7 @@ fits-within {w} {B} {z} h t = record { sfits = omega (arith, mag-abs z, h .withi
 pub within-back : {w : Width} {z : ℤ} → SFits w z → Within (2 ^ hbits w) (toZ w (ofZ w z))
 within-back f = within-fits (subst (SFits _) (sym (toZ-ofZ f)) f)
 
-pub within-read : (w : Width) (z : ℤ) → mag z < 2 ^ hbits w → Within (2 ^ hbits w) (toZ w (ofZ w z))
-within-read w z p = within-back {w = w} {z = z} (record { sfits = p })
-
 -- ---- lists of which each element is within a bound
-
-pub all-within-fit : {w : Width} {xs : List ℤ} → AllFit w xs → AllWithin (2 ^ hbits w) xs
-all-within-fit f = record { at = λ i. within-fits (f .at i) }
-
-pub all-within-le : {A B : ℕ} {xs : List ℤ} → AllWithin A xs → A ≤ B → AllWithin B xs
-all-within-le a h = record { at = λ i. within-le (a .at i) h }
 
 zero-within : (B : ℕ) → Within B (pos 0)
 zero-within B = record { within = omega arith }

@@ -82,7 +82,7 @@ said r (b ∷ xs) = cond (eqb b 10) (saidLine r) [] ++ said (withByte r b) xs
 
 -- ---- what the functions answer
 
--- text at the start of 961 bytes, which are zeros after it
+-- text at the start of 961 bytes, room for the longest answer, which are zeros after it
 abbrev pub textOf : List ℕ → Text
 textOf l = record { bytes = l ++ replicate (961 - length l) 0; len = length l }
 

@@ -101,7 +101,6 @@ fn newline(input: &[u8]) -> usize
     i
 }
 
-// Characters more of a line.
 fn append(line: Line, part: &[u8]) -> Line
     ensures { λ r. ⌜ r ≡ pushedAll line (now (part .entry)) ⌝ }
 {
@@ -125,7 +124,6 @@ fn append(line: Line, part: &[u8]) -> Line
     }
 }
 
-// The text of a number, or of the samples where it is 0.
 fn answer_text(n: u8, samples: [i16; 240]) -> Text
     ensures { λ r. ⌜ r ≡ textOf (answerLine n samples) ⌝ }
 {
@@ -227,7 +225,7 @@ fn part_reply(given: State, line: Line, part: &[u8]) -> Reply
     text_reply(given, part)
 }
 
-// What follows from an answer.
+// What is carried on after an answer: its state, a new line, and its number counted.
 fn fed_by(tallies: [u64; 12], a: Reply, used: usize) -> Fed
     ensures { λ r. ⌜ r ≡ fedBy tallies a used ⌝ }
 {

@@ -39,7 +39,7 @@ fn refusal_number(n: Refusal) -> u8
     }
 }
 
-// The number on the display; 0 where there is none.
+// Document 01's number; 0 where the record is accepted.
 pub fn verdict_number(v: Verdict) -> u8
     ensures { λ r. ⌜ r ≡ numberOf v ⌝ }
 {

@@ -4,6 +4,7 @@ ghost use Prim.Native.Nat.{_+_, _*_, _^_, _≤_};
 ghost use lib.Dec.{ltb};
 ghost use lib.IntN.{pos, natAbs, _*ℤ_};
 ghost use Rattle.integers.specs.Base.{entry, tabulate, Within, AllWithin};
+ghost use Rattle.tables.specs.Constants.{pitchGate};
 ghost use Rattle.correlation.specs.Correlation.{energy};
 ghost use Rattle.excitation.specs.Excitation.{place};
 ghost use Rattle.adaptive.specs.Adaptive.{limitedLag};
@@ -18,7 +19,7 @@ use wide::Wide;
 // Whether 4 c² is less than d t: the prediction gain is below 1.25 dB.
 fn too_weak(c: u64, d: u64, t: u64) -> bool
     requires { ⌜ c ≤ 2 ^ 36 ⌝ }
-    ensures { λ r. ⌜ r ≡ ltb (4 * (c * c)) (d * t) ⌝ }
+    ensures { λ r. ⌜ r ≡ ltb (pitchGate * (c * c)) (d * t) ⌝ }
 {
     wide::less(
         wide::times(wide::product(c, c), tables::PITCH_GATE),

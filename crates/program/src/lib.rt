@@ -54,7 +54,6 @@ fn piece(given: Replay, input: &[u8]) -> Turn
     }
 }
 
-// One read.
 fn read_piece(given: Replay) -> Turn
     ensures { λ r. ⌜ ((xs : List ℕ) × (r .replay ≡ after given xs)) ⌝ }
 {

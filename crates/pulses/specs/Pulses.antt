@@ -1,6 +1,6 @@
 -- Pulses (document 01, "Pulses"; the Rust's mpmlq_fixed_vector, which names §2.17 of G.723.1): the vector of a pulse description, when a description is accepted, and the theorem on equal vectors (demand 3), which proofs/EqualVectors.antt proves.
 use mathlib.Core.Path.{_≡_}
-use mathlib.Core.Bool.{Bool, true, false, cond, _&&_}
+use mathlib.Core.Bool.{Bool, true, cond, _&&_}
 use mathlib.Core.List.{List}
 use mathlib.Core.Logic.{_↔_}
 use Prim.Native.Nat.{ℕ, _+_, _-_, _*_, _/_, _%_, _^_, _≤_, _<_, max}

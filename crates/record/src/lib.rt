@@ -1,7 +1,7 @@
 // The fields of a record, read from its bytes and a place.
 ghost use mathlib.Core.Path.{_≡_};
 ghost use Prim.Native.Nat.{_+_, _*_, _<_};
-ghost use Rattle.layout.specs.Layout.{byte, lagPlace, blockPlace};
+ghost use Rattle.layout.specs.Layout.{byte};
 ghost use Rattle.record.specs.Record.{word, words, candidates, baseLag, lag, count, description, fixed, blockOf};
 use excitation::Rate;
 use excitation::Subframe;

@@ -1,5 +1,5 @@
 -- What holds of a state in bounds, and how a state is shown to be.
-use mathlib.Core.Path.{_≡_, refl, sym, ap, _∙_}
+use mathlib.Core.Path.{_≡_, refl, sym, _∙_}
 use mathlib.Core.Bool.{Bool, true, _&&_}
 use mathlib.Core.List.{List}
 use mathlib.Core.Logic.{⊎-elim}
@@ -12,9 +12,7 @@ use mir.Syntax.{w16}
 use mir.Val.{SFits}
 use Rattle.integers.specs.Base.{entry, tabulate}
 use Rattle.integers.specs.Natural.{le-or-lt}
-use Rattle.integers.specs.Signed.{zero-fits}
 use Rattle.integers.specs.Linear.{line, line-fits, fits-between}
-use Rattle.integers.specs.Saturation.{saturated-same}
 use Rattle.integers.specs.Fill.{tabulate-ext, entries-all}
 use Rattle.tables.specs.Constants.{pitchMin, agcMax, lastLagMin, lastLagMax, lastBaseLagMax, unvoicedGainMax}
 use Rattle.basicop.specs.Operators.{word16}

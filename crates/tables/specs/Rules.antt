@@ -1,5 +1,5 @@
 -- What holds of each cosine, gain and weight: one computed test for each of the three tables.
-use mathlib.Core.Path.{_≡_, refl, sym, ap, _∙_}
+use mathlib.Core.Path.{_≡_, sym, ap, _∙_}
 use mathlib.Core.Bool.{Bool, cond, _&&_}
 use mathlib.Core.List.{List, [], _∷_}
 use mathlib.Core.Logic.{⊎-elim}
@@ -33,7 +33,7 @@ cosine-rule k h =
       next = record { within = leb→le d 201 (and-right (leb (natAbs x) 16384) (leb d 201) t) };
     }
 
--- ---- gains: none is 0, no two are equal, the largest is 6623
+-- ---- gains: none is 0, no two are equal, none is above 6623
 
 -- the place of the first entry that is x
 unfoldable pub place : List ℕ → ℕ → ℕ
@@ -67,10 +67,6 @@ gain-distinct i j hi hj e = sym (gain-rule i hi .placed) ∙ ap (place gains) e 
 pub gain-most : (k : ℕ) → getD gains k 0 ≤ 6623
 unfolding gains
 gain-most k = ⊎-elim (λ (h : 24 ≤ k). omega (arith, List·getD-eq-default gains 0 h)) (λ (h : k < 24). gain-rule k h .at-most) (le-or-lt 24 k)
-
-pub gain-largest : getD gains 23 0 ≡ 6623
-unfolding gains
-gain-largest = refl
 
 -- ---- weights: row m, column i is the number of ways to choose 5 - m of 29 - i (document 01, "Pulses")
 

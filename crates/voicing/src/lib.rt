@@ -4,6 +4,7 @@ ghost use mathlib.Core.Bool.{false, cond};
 ghost use Prim.Native.Nat.{_*_, _/_, _^_, _≤_, _<_};
 ghost use lib.Dec.{ltb, leb};
 ghost use Rattle.integers.specs.Base.{Within};
+ghost use Rattle.tables.specs.Constants.{voicingGate, voicingRankOne};
 ghost use Rattle.wide.specs.Value.{value};
 ghost use Rattle.voicing.specs.Voicing.{candidate, leadingLag, voicingOf};
 ghost use Rattle.voicing.specs.Search.{scoreOf, Sums, Weighs};
@@ -33,7 +34,7 @@ fn candidate_lag(centre: u8, k: u8) -> u8
 // c²/(e t) in 2^30ths. A sum of less than 120 products leaves room for 2^30.
 fn lag_rank(c: u64, e: u64, t: u64) -> Wide
     requires { ⌜ c ≤ 2 ^ 37 ⌝ }
-    ensures { λ r. ⌜ value r ≡ c * c * 2 ^ 30 / (e * t) ⌝ }
+    ensures { λ r. ⌜ value r ≡ c * c * voicingRankOne / (e * t) ⌝ }
 {
     let square = wide::times(wide::product(c, c), tables::VOICING_RANK_ONE);
     quotient::divide(square, wide::product(e, t))
@@ -41,7 +42,7 @@ fn lag_rank(c: u64, e: u64, t: u64) -> Wide
 
 fn passes_gate(c: u64, e: u64, t: u64) -> bool
     requires { ⌜ c ≤ 2 ^ 37 ⌝ }
-    ensures { λ r. ⌜ r ≡ leb (e * t) (8 * (c * c)) ⌝ }
+    ensures { λ r. ⌜ r ≡ leb (e * t) (voicingGate * (c * c)) ⌝ }
 {
     let square = wide::times(wide::product(c, c), tables::VOICING_GATE);
     !wide::less(square, wide::product(e, t))

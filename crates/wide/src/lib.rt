@@ -68,7 +68,6 @@ pub fn shift_left(a: Wide, n: u32) -> Wide
     Wide { hi: 0, lo: 0 }
 }
 
-// Less than.
 pub fn less(a: Wide, b: Wide) -> bool
     ensures { λ r. ⌜ r ≡ ltb (value a) (value b) ⌝ }
 {

@@ -1,15 +1,13 @@
-use mathlib.Core.Path.{_≡_, sym, ap, subst}
-use Prim.Native.Nat.{ℕ}
-use native.Mathlib.Omega.{arith}
+use mathlib.Core.Path.{sym, subst}
 use lib.Dec.{T}
 use lib.IntN.{ℤ, pos, natAbs, _+ℤ_}
-use lib.Signed.{nonNeg, _≤ℤ_}
+use lib.Signed.{nonNeg}
 use mir.Syntax.{w32, w64}
 use mir.Val.{Fits, SFits, toZ, ofZ}
-use Rattle.integers.specs.Base.{Is, up}
+use Rattle.integers.specs.Base.{Is}
 use Rattle.integers.specs.Bound.{within-fits, within-num, within-add, fits-within}
 use Rattle.integers.specs.Expression.{is-arg, is-lit, is-cast, is-add, need-add}
-use Rattle.integers.specs.Linear.{line, line-add, line-fits, ≤-out}
+use Rattle.integers.specs.Linear.{line, line-add, line-fits}
 use Rattle.integers.specs.Signed.{signed, natural, widen}
 use Rattle.calls.proofs.sums.raised.Statement.{statement}
 use Rattle.calls.proofs.sums.raised.Tie as tie
