@@ -170,7 +170,7 @@ fn filtered_from(buf: &mut [u8], c: Cursor, a: [i16; 10], y: [i16; 60]) -> Curso
         tilt_k1: basicop::saturate(last[1]),
         agc_gain_q12: last[2],
     };
-    print_filtered(postfilter::formant_agc_subframe(pf, a, y));
+    print_filtered(postfilter::filtered_subframe(pf, a, y));
     m
 }
 

@@ -1,7 +1,9 @@
 // What is heard of a frame, into the samples that are lent (the Rust's decode_params and decode_erased, qdec.rs).
 ghost use mathlib.Core.Path.{_≡_};
 ghost use lib.ListN.{length};
+ghost use Rattle.postfilter.specs.Postfilter.{filtered, postfilterAfter};
 ghost use Rattle.output.specs.Output.{subframeHeard, filtersAfter, frameHeard, frameFilters, heardIn, filtersIn};
+use postfilter::Filtered;
 use postfilter::Postfilter;
 
 // The memories that the subframes hand on.
@@ -22,6 +24,15 @@ fn write_samples(part: &mut [i16], out: [i16; 60])
     }
 }
 
+// The memory of formant, tilt and gain is lent to them for the subframe.
+fn postfiltered(pf: Postfilter, a: [i16; 10], y: [i16; 60]) -> Filtered
+    ensures { λ r. ⌜ (r .out ≡ filtered pf a y) × (r .pf ≡ postfilterAfter pf a y) ⌝ }
+{
+    let mut kept = pf;
+    let out = postfilter::formant_agc_subframe(&mut kept, a, y);
+    Filtered { out: out, pf: kept }
+}
+
 // The output step of a subframe: its sixty samples into the part that is lent, and the memories after it.
 fn output_subframe(part: &mut [i16], on: bool, a: [i16; 10], x: [i32; 60], f: Filters) -> Filters
     requires { ⌜ length (now part) ≡ 60 ⌝ }
@@ -40,7 +51,7 @@ fn output_subframe(part: &mut [i16], on: bool, a: [i16; 10], x: [i32; 60], f: Fi
             pf: pf,
         };
     }
-    let z = postfilter::formant_agc_subframe(pf, a, out);
+    let z = postfiltered(pf, a, out);
     let heard = z.out;
     let kept = z.pf;
     write_samples(part, heard);

@@ -1,3 +1,4 @@
 pub mod Steps
 pub mod Bounds
 pub mod Values
+pub mod Lent

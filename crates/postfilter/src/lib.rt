@@ -120,7 +120,7 @@ fn gained_subframe(t: i32, gain: i32, z: &[i16; 60]) -> Gained
     Gained { out: out, gain: g }
 }
 
-pub fn formant_agc_subframe(pf: Postfilter, a: [i16; 10], y: [i16; 60]) -> Filtered
+pub fn filtered_subframe(pf: Postfilter, a: [i16; 10], y: [i16; 60]) -> Filtered
     ensures { λ r. ⌜ r .out ≡ filtered pf a y ⌝ }
     ensures { λ r. ⌜ r .pf ≡ postfilterAfter pf a y ⌝ }
 {
@@ -147,4 +147,14 @@ pub fn formant_agc_subframe(pf: Postfilter, a: [i16; 10], y: [i16; 60]) -> Filte
             agc_gain_q12: g.gain,
         },
     }
+}
+
+// The memory is lent, and changed in place, as in the Rust.
+pub fn formant_agc_subframe(pf: &mut Postfilter, a: [i16; 10], y: [i16; 60]) -> [i16; 60]
+    ensures { λ r. ⌜ (r ≡ filtered (now (pf .entry)) a y) × (now (pf .exit) ≡ postfilterAfter (now (pf .entry)) a y) ⌝ }
+{
+    let held = *pf;
+    let f = filtered_subframe(held, a, y);
+    *pf = f.pf;
+    f.out
 }
