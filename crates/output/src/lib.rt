@@ -25,7 +25,7 @@ fn write_samples(part: &mut [i16], out: [i16; 60])
 }
 
 // The memory of formant, tilt and gain is lent to them for the subframe.
-fn postfiltered(pf: Postfilter, a: [i16; 10], y: [i16; 60]) -> Filtered
+fn postfilter_subframe(pf: Postfilter, a: [i16; 10], y: [i16; 60]) -> Filtered
     ensures { λ r. ⌜ (r .out ≡ filtered pf a y) × (r .pf ≡ postfilterAfter pf a y) ⌝ }
 {
     let mut kept = pf;
@@ -51,7 +51,7 @@ fn output_subframe(part: &mut [i16], on: bool, a: [i16; 10], x: [i32; 60], f: Fi
             pf: pf,
         };
     }
-    let z = postfiltered(pf, a, out);
+    let z = postfilter_subframe(pf, a, out);
     let heard = z.out;
     let kept = z.pf;
     write_samples(part, heard);

@@ -31,8 +31,8 @@ returns c =
       c .before .write-samples .ensures ∙ y .ensures .0 ∙ heard-off (a .on) (a .a) (a .t4) (a .f) off,
     )
 
-postfiltered-requires : tie.Need-postfiltered-requires
-postfiltered-requires c κs = tt
+postfilter-subframe-requires : tie.Need-postfilter-subframe-requires
+postfilter-subframe-requires c κs = tt
 
 write-samples-requires-2 : tie.Need-write-samples-requires-2
 write-samples-requires-2 c κs = start-of (c .before .before .before .before .before) .pre
@@ -48,7 +48,7 @@ returns-2 c =
     let y = synthesis-of (t .before) .synthesis-subframe in
     let a = start-of (t .before) .args in
     let on = t .if1 .left in
-    let f = z .postfiltered .ensures in
+    let f = z .postfilter-subframe .ensures in
     let passed = f .1 ∙ ap (postfilterAfter (a .f .pf) (a .a)) (y .ensures .0) in
     let heard = f .0 ∙ ap (filtered (a .f .pf) (a .a)) (y .ensures .0) in (
       (λ i. record { «syn_mem» = y .ensures .1 i; pf = passed i }) ∙ memories-on (a .on) (a .a) (a .t4) (a .f) on,
@@ -63,7 +63,7 @@ output-subframe-spec =
     write-samples-requires
     same-length
     returns
-    postfiltered-requires
+    postfilter-subframe-requires
     write-samples-requires-2
     same-length-2
     returns-2)

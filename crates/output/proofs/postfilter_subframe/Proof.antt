@@ -1,4 +1,4 @@
--- `postfiltered`, by a walk of its MIR: the memory is copied to a local, which is lent to `formant_agc_subframe` for the call
+-- `postfilter_subframe`, by a walk of its MIR: the memory is copied to a local, which is lent to `formant_agc_subframe` for the call
 -- and comes back at the memory after the subframe.
 use mathlib.Core.Path.{_≡_, refl, ap, sym, subst, _∙_}
 use mathlib.Core.List.{List, [], _∷_, map-id}
@@ -54,10 +54,10 @@ use Rattle.postfilter.proofs.formant_agc_subframe as callee
 use Rattle.postfilter.proofs.formant_agc_subframe.Symbol as callee-def
 use Rattle.postfilter.proofs.formant_agc_subframe.Symbol.{name as #postfilter·formant-agc-subframe}
 use Rattle.postfilter.proofs.formant_agc_subframe.Met as callee-thm
-use Rattle.output.proofs.postfiltered as here
-use Rattle.output.proofs.postfiltered.Key.{name as #output·postfiltered}
-use Rattle.output.proofs.postfiltered.Statement as stated
-use Rattle.output.proofs.postfiltered.Code as code
+use Rattle.output.proofs.postfilter_subframe as here
+use Rattle.output.proofs.postfilter_subframe.Key.{name as #output·postfilter-subframe}
+use Rattle.output.proofs.postfilter_subframe.Statement as stated
+use Rattle.output.proofs.postfilter_subframe.Code as code
 
 -- at exit nothing is had of the parameters
 abbrev stayed : Stays (here.ended .signature .params) (here.ended .kept)
@@ -218,13 +218,13 @@ module _ {M : Type 1} (𝓤 : URA M) (H : Heap 𝓤) (A : Atoms 𝓤) (W : Given
       (here.clauses 𝓤 H A at-mem run) (WpFn 𝓤 H (𝓣 .C) (𝓣 .Λ) code.function)
       (WpFn-mono 𝓤 H (W .laws) 𝓣 code.function) (walks (𝓣 .C) (𝓣 .Λ) (fmOf 𝓤 H (W .laws) 𝓣) known)
 
-pub postfiltered-spec : {M : Type 1} → stated.statement M
+pub postfilter-subframe-spec : {M : Type 1} → stated.statement M
 unfolding code.routine tablesOf
-postfiltered-spec 𝓤 H 𝓜 𝓖 𝓡 =
+postfilter-subframe-spec 𝓤 H 𝓜 𝓖 𝓡 =
     let 𝓣 = tables 𝓤 H 𝓜 𝓡 code.env in
     let W = givenOf 𝓤 H 𝓜 𝓖 in
     entered 𝓤 H (tripleOf 𝓤 H (𝓖 .A) here.signature (here.spec 𝓤 H (𝓖 .A) (𝓜 .mem) (𝓡 .run)))
-    (𝓣 .C) (𝓣 .Λ) #output·postfiltered code.function (code.unfolded 𝓤 H 𝓜 𝓡)
+    (𝓣 .C) (𝓣 .Λ) #output·postfilter-subframe code.function (code.unfolded 𝓤 H 𝓜 𝓡)
     (meets 𝓤 H (𝓖 .A) W (𝓜 .mem) (𝓡 .run) (tablesOf 𝓤 H 𝓜 𝓣)
     (cited 𝓤 H (Callee 𝓤 H (𝓖 .A) W (𝓜 .mem) (𝓡 .run)) 𝓜 𝓡 code.env #postfilter·formant-agc-subframe callee-def.routine
     code.calls-postfilter·formant-agc-subframe (callee-thm.met 𝓤 H 𝓜 𝓖 𝓡)))
