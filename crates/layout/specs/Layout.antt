@@ -1,18 +1,9 @@
--- The bytes of a record, and where its fields stand (document 01, "The record"). r is its bytes; past its end they read as 0.
-use mathlib.Core.List.{List}
+-- Where the fields of a record stand (document 01, "The record").
 use Prim.Native.Nat.{ℕ, _+_, _*_}
-use lib.ListN.{getD}
 use Rattle.excitation.specs.declared.Subframe.{Subframe}
 use Rattle.excitation.specs.declared.Subframe.the-variants.{Zero, One, Two, Three}
 use Rattle.excitation.specs.declared.Rate.{Rate}
 use Rattle.excitation.specs.declared.Rate.the-variants.{High, Low}
-
--- ---- bytes
-
-abbrev pub byte : List ℕ → ℕ → ℕ
-byte r i = getD r i 0
-
--- ---- places
 
 -- the byte of a subframe's base lag code: code A serves subframes 0 and 1, code B 2 and 3
 abbrev pub lagPlace : Subframe → ℕ

@@ -1,6 +1,7 @@
 // The bytes of a record, and where its fields stand.
 ghost use mathlib.Core.Path.{_≡_};
-ghost use Rattle.layout.specs.Layout.{byte, lagPlace, blockPlace};
+ghost use Rattle.reader.specs.Fields.{byte};
+ghost use Rattle.layout.specs.Layout.{lagPlace, blockPlace};
 use excitation::Rate;
 use excitation::Subframe;
 
@@ -8,7 +9,7 @@ use excitation::Subframe;
 pub fn byte_at(record: &[u8], at: usize) -> u8
     ensures { λ r. ⌜ r ≡ byte (now («record» .entry)) at ⌝ }
 {
-    if at < record.len() { record[at] } else { 0 }
+    reader::read_field(record, at).byte
 }
 
 // The byte of a subframe's base lag code.

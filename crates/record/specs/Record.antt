@@ -1,8 +1,8 @@
 -- The fields of a record (document 01, "The record"). r is its bytes; past its end they read as 0.
-use mathlib.Core.Bool.{Bool, cond}
+use mathlib.Core.Bool.{Bool}
 use mathlib.Core.List.{List}
 use Prim.Native.Nat.{ℕ, _+_, _*_, _/_, _%_}
-use lib.Dec.{ltb, eqb}
+use lib.Dec.{eqb}
 use lib.IntN.{ℤ, pos, _+ℤ_, _-ℤ_}
 use Rattle.integers.specs.Base.{tabulate}
 use Rattle.tables.specs.Constants.{lpcOrder, subframeSize, acbTaps, pitchMin, stepCodeZero}
@@ -14,20 +14,13 @@ use Rattle.excitation.specs.declared.Subframe.{Subframe}
 use Rattle.excitation.specs.declared.Subframe.the-variants.{Zero, One, Two, Three}
 use Rattle.excitation.specs.declared.Rate.{Rate}
 use Rattle.excitation.specs.declared.Rate.the-variants.{High, Low}
-use Rattle.layout.specs.Layout.{byte, lagPlace, blockPlace}
+use Rattle.reader.specs.Fields.{byte, word}
+use Rattle.layout.specs.Layout.{lagPlace, blockPlace}
 use Rattle.record.specs.declared.Block.{Block}
 
 -- ---- values
 
--- sixteen bits as two's complement
-abbrev pub twosComplement : ℕ → ℤ
-twosComplement n = cond (ltb n 32768) (pos n) (pos n -ℤ pos 65536)
-
--- the 16-bit value at byte i, big-endian
-abbrev pub word : List ℕ → ℕ → ℤ
-word r i = twosComplement (byte r i * 256 + byte r (i + 1))
-
--- n such values from byte i on
+-- n 16-bit values from byte i on
 abbrev pub words : List ℕ → ℕ → ℕ → List ℤ
 words r i n = tabulate (λ k. word r (i + 2 * k)) n
 

@@ -1,8 +1,8 @@
 // The fields of a record, read from its bytes and a place.
 ghost use mathlib.Core.Path.{_≡_};
 ghost use Prim.Native.Nat.{_+_, _*_, _<_};
-ghost use Rattle.layout.specs.Layout.{byte};
-ghost use Rattle.record.specs.Record.{word, words, candidates, baseLag, lag, count, description, fixed, blockOf};
+ghost use Rattle.reader.specs.Fields.{byte, word};
+ghost use Rattle.record.specs.Record.{words, candidates, baseLag, lag, count, description, fixed, blockOf};
 use excitation::Rate;
 use excitation::Subframe;
 use positions::Count;
@@ -17,17 +17,11 @@ pub struct Block {
     pub fixed: [i32; 60],
 }
 
-// Two bytes, big-endian two's complement.
+// The 16-bit value that starts at a place.
 fn word_at(record: &[u8], at: usize) -> i16
-    requires { ⌜ at < 1000 ⌝ }
     ensures { λ r. ⌜ r ≡ word (now («record» .entry)) at ⌝ }
 {
-    let n = layout::byte_at(record, at) as u32 * 256 + layout::byte_at(record, at + 1) as u32;
-    if n < 32768 {
-        n as i16
-    } else {
-        (n as i32 - 65536) as i16
-    }
+    reader::read_field(record, at).word
 }
 
 // Ten candidate LSPs.

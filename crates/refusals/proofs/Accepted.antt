@@ -12,7 +12,7 @@ use Rattle.positions.specs.Positions.{pulses}
 use Rattle.pulses.specs.Pulses.{Accepted}
 use Rattle.excitation.specs.declared.Subframe.{Subframe}
 use Rattle.excitation.specs.declared.Subframe.the-variants.{Zero, One, Two, Three}
-use Rattle.layout.specs.Layout.{byte}
+use Rattle.reader.specs.Fields.{byte}
 use Rattle.record.specs.Record.{baseLag, gainIndex, train, count, description}
 use Rattle.record.specs.Record.{flags as flagsOf, signs as signsOf}
 use Rattle.refusals.specs.declared.Found.{Found}

@@ -10,7 +10,7 @@ use Rattle.excitation.specs.declared.Subframe.{Subframe}
 use Rattle.excitation.specs.declared.Subframe.the-variants.{Zero, One, Two, Three}
 use Rattle.excitation.specs.declared.Rate.{Rate}
 use Rattle.excitation.specs.declared.Rate.the-variants as rates
-use Rattle.layout.specs.Layout.{byte}
+use Rattle.reader.specs.Fields.{byte}
 use Rattle.record.specs.Record.{baseLag, gainIndex, flags, train, signs, count}
 use Rattle.numbers.specs.declared.Refusal.the-variants.{NoByte, Kind, Length, LagCode, StepCode, GainIndex, Flags, Signs}
 use Rattle.refusals.specs.declared.Found.{Found}

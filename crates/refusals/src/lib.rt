@@ -3,7 +3,7 @@ ghost use mathlib.Core.Path.{_≡_};
 ghost use mathlib.Core.Bool.{_||_};
 ghost use lib.Dec.{ltb};
 ghost use Rattle.tables.specs.Constants.{gainIndexMax};
-ghost use Rattle.layout.specs.Layout.{byte};
+ghost use Rattle.reader.specs.Fields.{byte};
 ghost use Rattle.record.specs.Record.{gainIndex};
 ghost use Rattle.refusals.specs.Refusals.{bytesOf, wrongLagCode, wrongStepCode, wrongGainIndex, wrongFlagsIn, wrongFlags, wrongSignsIn, wrongSigns, foundHigh, foundReceived, found};
 use excitation::Rate;

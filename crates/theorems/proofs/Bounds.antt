@@ -17,7 +17,7 @@ use Rattle.excitation.specs.declared.Rate.{Rate}
 use Rattle.excitation.specs.declared.Rate.the-variants as rates
 use Rattle.noise.specs.Noise.{nextRun}
 use Rattle.voicing.specs.Voicing.{voicingOf}
-use Rattle.layout.specs.Layout.{byte}
+use Rattle.reader.specs.Fields.{byte}
 use Rattle.record.specs.Record.{blockOf}
 use Rattle.refusals.specs.Refusals.{found}
 use Rattle.refusals.proofs.Accepted.{codes-high, codes-low}

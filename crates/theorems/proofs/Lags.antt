@@ -6,7 +6,7 @@ use lib.Signed.{_≤ℤ_}
 use Rattle.integers.specs.Linear.{line, line-add, line-sub}
 use Rattle.excitation.specs.declared.Subframe.the-variants.{Two, Three}
 use Rattle.excitation.specs.declared.Rate.{Rate}
-use Rattle.layout.specs.Layout.{byte}
+use Rattle.reader.specs.Fields.{byte}
 use Rattle.record.specs.Record.{step, blockOf}
 
 module _ (rate : Rate) (r : List ℕ) where

@@ -14,7 +14,7 @@ use Rattle.integers.specs.Expression.{is-mag, is-lit, is-sub, is-add, need-sub,
 use Rattle.tables.specs.Constants.{stepCodeZero}
 use Rattle.excitation.specs.declared.Subframe.{Subframe}
 use Rattle.excitation.specs.declared.Subframe.the-variants.{Zero, One, Two, Three}
-use Rattle.layout.specs.Layout.{byte}
+use Rattle.reader.specs.Fields.{byte}
 use Rattle.record.specs.Record.{baseLag, step, lag}
 use Rattle.record.proofs.own_lag.Statement.{statement}
 use Rattle.record.proofs.own_lag.Tie as tie

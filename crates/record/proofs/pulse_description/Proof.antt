@@ -3,7 +3,8 @@ use Prim.Native.Nat.{_+_, _*_, _/_, _%_, _≤_}
 use native.Mathlib.Omega.{arith}
 use lib.Dec.{eqb}
 use Rattle.excitation.specs.declared.Rate.the-variants.{High}
-use Rattle.layout.specs.Layout.{byte, blockPlace}
+use Rattle.reader.specs.Fields.{byte}
+use Rattle.layout.specs.Layout.{blockPlace}
 use Rattle.layout.proofs.Places.{place-bound}
 use Rattle.record.proofs.pulse_description.Statement.{statement}
 use Rattle.record.proofs.pulse_description.Tie as tie

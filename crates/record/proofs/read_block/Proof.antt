@@ -4,7 +4,7 @@ use native.Mathlib.Omega.{arith}
 use lib.IntN.{pos}
 use mir.Syntax.{w32}
 use Rattle.integers.specs.Signed.{back}
-use Rattle.layout.specs.Layout.{byte}
+use Rattle.reader.specs.Fields.{byte}
 use Rattle.record.specs.Record.{words, blockOf}
 use Rattle.layout.proofs.Places.{place-bound}
 use Rattle.record.proofs.read_block.Statement.{statement}

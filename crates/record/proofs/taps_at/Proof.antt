@@ -5,7 +5,7 @@ use mir.Syntax.{w16}
 use Rattle.integers.specs.Base.{Fills}
 use Rattle.integers.specs.Fill.{fills-start, fills-next, fills-end}
 use Rattle.integers.specs.Signed.{back}
-use Rattle.record.specs.Record.{word}
+use Rattle.reader.specs.Fields.{word}
 use Rattle.record.proofs.taps_at.Statement.{statement}
 use Rattle.record.proofs.taps_at.Tie as tie
 

@@ -7,7 +7,7 @@ use Rattle.integers.specs.Base.{Is, Fills}
 use Rattle.integers.specs.Expression.{is-mag, is-cast, need-cast}
 use Rattle.integers.specs.Fill.{fills-start, fills-next, fills-end}
 use Rattle.integers.specs.Signed.{widen}
-use Rattle.record.specs.Record.{word}
+use Rattle.reader.specs.Fields.{word}
 use Rattle.record.proofs.values_at.Statement.{statement}
 use Rattle.record.proofs.values_at.Tie as tie
 

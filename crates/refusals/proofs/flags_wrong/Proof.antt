@@ -10,7 +10,7 @@ use mir.Val.{SFits}
 use Rattle.integers.specs.Base.{Is}
 use Rattle.integers.specs.Expression.{is-mag, is-lit, is-add, is-le, need-add}
 use Rattle.excitation.specs.declared.Rate.the-variants.{High}
-use Rattle.layout.specs.Layout.{byte}
+use Rattle.reader.specs.Fields.{byte}
 use Rattle.record.specs.Record.{flags}
 use Rattle.layout.proofs.Places.{place-bound}
 use Rattle.integers.specs.Truth.{or-here, or-there, and-here, and-there}

@@ -3,7 +3,7 @@ use Prim.Native.Nat.{ℕ, _+_}
 use native.Mathlib.Omega.{arith}
 use lib.Dec.{ltb}
 use Rattle.tables.specs.Constants.{gainIndexMax}
-use Rattle.layout.specs.Layout.{byte}
+use Rattle.reader.specs.Fields.{byte}
 use Rattle.layout.proofs.Places.{place-bound}
 use Rattle.refusals.proofs.gain_above.Statement.{statement}
 use Rattle.refusals.proofs.gain_above.Tie as tie

@@ -7,7 +7,7 @@ use lib.Dec.{leb}
 use Rattle.positions.specs.Positions.{pulses}
 use Rattle.excitation.specs.declared.Subframe.{Subframe}
 use Rattle.excitation.specs.declared.Rate.the-variants.{High}
-use Rattle.layout.specs.Layout.{byte}
+use Rattle.reader.specs.Fields.{byte}
 use Rattle.record.specs.Record.{signs, count}
 use Rattle.layout.proofs.Places.{place-bound}
 use Rattle.refusals.specs.Refusals.{wrongSignsIn}
