@@ -71,7 +71,7 @@ fn scaled_down(a: i16, n: u32) -> i16
     }
 }
 
-// Every count has an answer; at the least one the Rust overflows (docs/DIFFERENCES.md).
+// Every count has an answer; at the least i32 the Rust overflows (docs/DIFFERENCES.md).
 pub fn shl(a: i16, n: i32) -> i16
     ensures { λ r. ⌜ r ≡ shl16 a n ⌝ }
 {

@@ -20,7 +20,7 @@ pub fn no_tallies() -> [u64; 12]
     [0u64; 12]
 }
 
-// One more of n, which is at most 11: any other is not counted.
+// One more of n; a number above 11 is not counted.
 pub fn count(tallies: [u64; 12], n: u8) -> [u64; 12]
     ensures { λ r. ⌜ r ≡ counted tallies n ⌝ }
 {

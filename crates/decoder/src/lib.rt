@@ -3,7 +3,7 @@ ghost use mathlib.Core.Path.{_≡_};
 ghost use mathlib.Core.Bool.{true, cond};
 ghost use lib.ListN.{length};
 ghost use Rattle.integers.specs.Base.{entry};
-ghost use Rattle.layout.specs.Layout.{number};
+ghost use Rattle.layout.specs.Layout.{ordinal};
 ghost use Rattle.numbers.specs.Numbers.{numberOf};
 ghost use Rattle.state.specs.State.{inBounds};
 ghost use Rattle.decoder.specs.Frame.{plainInputs, pitchInputs, receivedTo, frameSamples, frameState, erasedSamples, erasedState, receivedSamples, receivedState};
@@ -58,7 +58,7 @@ fn plain_inputs(signal: &[i16; 386]) -> [[i32; 60]; 4]
 
 // With the postfilter on, through the pitch postfilter.
 fn received_inputs(signal: &[i16; 386], on: bool, rate: Rate, lags: [i32; 4]) -> [[i32; 60]; 4]
-    ensures { λ r. ⌜ r ≡ cond on (pitchInputs rate (λ s. entry lags (number s)) (now (signal .entry))) (plainInputs (now (signal .entry))) ⌝ }
+    ensures { λ r. ⌜ r ≡ cond on (pitchInputs rate (λ s. entry lags (ordinal s)) (now (signal .entry))) (plainInputs (now (signal .entry))) ⌝ }
 {
     if !on {
         return plain_inputs(signal);
@@ -209,7 +209,7 @@ fn accepted(next: State) -> Answer
     }
 }
 
-// Nothing is written before the last test.
+// Nothing is written before the last test. The number is in the answer too; it is promised by itself for who reads numbers.
 pub fn decode(given: State, record: &[u8], samples: &mut [i16]) -> Answer
     ensures answer { λ r. ⌜ r ≡ answerOf given (now («record» .entry)) (now (samples .entry)) ⌝ }
     ensures number { λ r. ⌜ numberOf (r .verdict) ≡ firstNumber given (now («record» .entry)) (now (samples .entry)) ⌝ }

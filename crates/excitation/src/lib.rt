@@ -31,7 +31,7 @@ pub fn subframe_place(s: Subframe) -> usize
 }
 
 // A sample of the adaptive part and one of the fixed vector, limited to 16 bits.
-fn limited_sample(u: i32, v: i32) -> i16
+fn sum_sample(u: i32, v: i32) -> i16
     ensures { λ r. ⌜ r ≡ word16 (u +ℤ v) ⌝ }
 {
     basicop::saturate(basicop32::l_add(u, v))
@@ -44,7 +44,7 @@ pub fn excitation_sum(u: [i32; 60], v: [i32; 60]) -> [i16; 60]
     let mut e = [0i16; 60];
     let mut n: usize = 0;
     while n < 60 {
-        e[n] = limited_sample(u[n], v[n]);
+        e[n] = sum_sample(u[n], v[n]);
         n += 1;
     }
     e

@@ -17,13 +17,13 @@ abbrev pub blockSize : Rate → ℕ
 blockSize High = 16
 blockSize Low = 131
 
--- a subframe's number
-abbrev pub number : Subframe → ℕ
-number Zero = 0
-number One = 1
-number Two = 2
-number Three = 3
+-- a subframe, counted from 0
+abbrev pub ordinal : Subframe → ℕ
+ordinal Zero = 0
+ordinal One = 1
+ordinal Two = 2
+ordinal Three = 3
 
 -- the first byte of a subframe's block
 abbrev pub blockPlace : Rate → Subframe → ℕ
-blockPlace rate s = 25 + number s * blockSize rate
+blockPlace rate s = 25 + ordinal s * blockSize rate

@@ -32,11 +32,11 @@ pub fn block_place(rate: Rate, s: Subframe) -> usize
         Rate::High => 16usize,
         Rate::Low => 131usize,
     };
-    let number = match s {
+    let ordinal = match s {
         Subframe::Zero => 0usize,
         Subframe::One => 1usize,
         Subframe::Two => 2usize,
         Subframe::Three => 3usize,
     };
-    25 + number * size
+    25 + ordinal * size
 }

@@ -19,7 +19,7 @@ unfoldable pub threeQuartersTo : ℕ → ℕ
 threeQuartersTo zero = 32768
 threeQuartersTo (suc n) = threeQuartersTo n * erasureAttenuation / 32768
 
--- of the frame that is the run-th in a row: 24576, 18432, 13824 (proofs/Values.antt), and then 0
+-- of the frame that is the run-th in a row, from 1: 24576, 18432, 13824 (proofs/Values.antt), and then 0
 abbrev pub attenuation : ℕ → ℕ
 attenuation run = cond (ltb erasureMuteAfter run) 0 (threeQuartersTo run)
 

@@ -70,7 +70,8 @@ fn read_piece(given: Replay) -> Turn
     piece(given, &buf[..n])
 }
 
-// Reads to the end of the input. A proved loop has to end, so it counts its turns down from a number that no run uses up.
+// Reads to the end of the input. A proved loop has to end, so it counts its turns down from a number that no run uses up; that
+// the end of the input is seen is tested (tests/check-program).
 fn read_all(given: Replay) -> Turn
     ensures { λ r. ⌜ ((input : List ℕ) × (r .replay ≡ after given input)) ⌝ }
 {

@@ -1,5 +1,5 @@
-// The record reader: it refers to the record's bytes and keeps a cursor. A function over it is a few lines around one on a
-// slice and a place; `read_field`, on a slice and a place again, is what everything else calls.
+// The record reader: it refers to the record's bytes and keeps a cursor. What it reads is read by `byte_at` and `word_at`, which
+// take the slice and the place; `read_field`, which takes both as well, is what everything else calls.
 ghost use mathlib.Core.Path.{_≡_};
 ghost use Rattle.reader.specs.Fields.{byte, word};
 
@@ -21,7 +21,7 @@ fn byte_at(src: &[u8], at: usize) -> u8
     if at < src.len() { src[at] } else { 0 }
 }
 
-// Past the end there is no place to add 1 to.
+// A place in the slice leaves room to add 1.
 fn word_at(src: &[u8], at: usize) -> i16
     ensures { λ r. ⌜ r ≡ word (now (src .entry)) at ⌝ }
 {

@@ -1,5 +1,5 @@
 // The constants of document 01 and the tables of the decoder, in one place. Each constant has its counterpart for
-// definitions in specs/Constants.antt.
+// definitions in specs/Constants.antt. Lengths of arrays, and shifts, stand in code as numbers.
 mod spec_tables;
 
 pub use spec_tables::fixed_codebook_gain;

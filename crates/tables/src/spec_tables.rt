@@ -5,7 +5,7 @@ ghost use lib.IntN.{pos};
 ghost use lib.ListN.{getD};
 ghost use Rattle.tables.specs.Tables.{cosines, meanLsps, gains, weights, postfilterZeros, postfilterPoles};
 
-// One period of the cosine, in 16384ths (§2.5; used in §2.7).
+// One period of the cosine, in 16384ths, although the Rust's name has Q15 (§2.5; used in §2.7).
 const LSP_COSINE_LOOKUP_Q15: [i16; 512] = [
     16384,
     16383,

@@ -8,7 +8,7 @@ use lib.Dec.{ltb, leb}
 use lib.IntN.{ℤ, pos, natAbs}
 use lib.Signed.{ltZ}
 use Rattle.voicing.specs.Voicing.{lagCorrelation, earlierEnergy, laterEnergy, counts}
-use Rattle.voicing.specs.Search.{Sums, Weighs}
+use Rattle.voicing.specs.Search.{WeighsBy, Weighs}
 use Rattle.voicing.specs.declared.Leader.{Leader}
 use Rattle.integers.specs.Truth.{clash}
 
@@ -19,16 +19,16 @@ module _ (s : ℤ) (e t : ℕ) where
   alike = ltZ (pos 0) s
 
   module _ {w : Leader} (h : w .counts ≡ false) where
-    sums-uncounted : (alike && (ltb 0 e && ltb 0 t)) ≡ false → Sums s e t w
+    sums-uncounted : (alike && (ltb 0 e && ltb 0 t)) ≡ false → WeighsBy s e t w
     sums-uncounted k = record { counts = h ∙ sym k; rank = λ u. clash u h; gated = λ u. clash u h }
 
-    pub sums-unlike : alike ≡ false → Sums s e t w
+    pub sums-unlike : alike ≡ false → WeighsBy s e t w
     sums-unlike k = sums-uncounted (ap (λ (b : Bool). b && (ltb 0 e && ltb 0 t)) k)
 
-    pub sums-silent-earlier : e ≡ 0 → Sums s e t w
+    pub sums-silent-earlier : e ≡ 0 → WeighsBy s e t w
     sums-silent-earlier k = sums-uncounted (ap (λ (n : ℕ). alike && (ltb 0 n && ltb 0 t)) k ∙ and-false alike)
 
-    pub sums-silent-later : t ≡ 0 → Sums s e t w
+    pub sums-silent-later : t ≡ 0 → WeighsBy s e t w
     sums-silent-later k =
         let silent = ap (λ (n : ℕ). ltb 0 e && ltb 0 n) k ∙ and-false (ltb 0 e) in
         sums-uncounted (ap (λ (b : Bool). alike && b) silent ∙ and-false alike)
@@ -52,7 +52,7 @@ module _ (y : List ℤ) (m : ℕ) where
     unfolding counts
     counts-near h = λ i. sym (lt-ltb m 120 h) i && (ltZ (pos 0) (p i) && (ltZ (pos 0) (q i) && ltZ (pos 0) (r i)))
 
-    pub weighs-near : {w : Leader} → m < 120 → w .lag ≡ m → Sums s e t w → Weighs y m w
+    pub weighs-near : {w : Leader} → m < 120 → w .lag ≡ m → WeighsBy s e t w → Weighs y m w
     weighs-near h l k = record {
       lag = l;
       counts = k .counts ∙ counts-near h;

@@ -16,7 +16,7 @@ abbrev pub scoreOf : Leader → ℕ
 scoreOf w = cond (w .counts) (suc (value (w .rank))) 0
 
 -- what is kept of a lag below 120 is right for the sums s, e and t; rank and gate are asked only of one that counts
-pub record Sums (s : ℤ) (e t : ℕ) (w : Leader) : Type 0 where
+pub record WeighsBy (s : ℤ) (e t : ℕ) (w : Leader) : Type 0 where
   pub counts : w .counts ≡ (ltZ (pos 0) s && (ltb 0 e && ltb 0 t))
   pub rank : w .counts ≡ true → value (w .rank) ≡ natAbs s * natAbs s * voicingRankOne / (e * t)
   pub gated : w .counts ≡ true → w .gated ≡ leb (e * t) (voicingGate * (natAbs s * natAbs s))

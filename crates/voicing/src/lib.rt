@@ -7,7 +7,7 @@ ghost use Rattle.integers.specs.Base.{Within};
 ghost use Rattle.tables.specs.Constants.{voicingGate, voicingRankOne};
 ghost use Rattle.wide.specs.Value.{value};
 ghost use Rattle.voicing.specs.Voicing.{candidate, leadingLag, voicingOf};
-ghost use Rattle.voicing.specs.Search.{scoreOf, Sums, Weighs};
+ghost use Rattle.voicing.specs.Search.{scoreOf, WeighsBy, Weighs};
 use wide::Wide;
 
 pub enum Voicing {
@@ -64,7 +64,7 @@ fn uncounted(lag: u8) -> Leader
 fn with_sums(lag: u8, s: i64, e: u64, t: u64) -> Leader
     requires { ⌜ Within (2 ^ 37) s ⌝ }
     ensures { λ r. ⌜ r .lag ≡ lag ⌝ }
-    ensures { λ r. ⌜ Sums s e t r ⌝ }
+    ensures { λ r. ⌜ WeighsBy s e t r ⌝ }
 {
     if s <= 0 {
         return uncounted(lag);

@@ -10,7 +10,7 @@ use Rattle.stability.specs.Stability.{checkOrPrevious}
 use Rattle.excitation.specs.Excitation.{tapSum, unvoicedGain}
 use Rattle.excitation.specs.declared.Subframe.{Subframe}
 use Rattle.excitation.specs.declared.Subframe.the-variants.{Zero, One, Two, Three}
-use Rattle.layout.specs.Layout.{number}
+use Rattle.layout.specs.Layout.{ordinal}
 use Rattle.record.specs.declared.Block.{Block}
 use Rattle.widths.specs.Widths.{frameSignal}
 use Rattle.state.specs.declared.State.{State}
@@ -110,7 +110,7 @@ module _ (c : tie.After-received-inputs) where
   abbrev lags : List ℤ
   lags = lag Zero ∷ lag One ∷ lag Two ∷ lag Three ∷ []
 
-  lag-is : (k : Subframe) → entry lags (number k) ≡ blockAt (begin-of blocks) k .«base_lag»
+  lag-is : (k : Subframe) → entry lags (ordinal k) ≡ blockAt (begin-of blocks) k .«base_lag»
   lag-is Zero =
       let t = c .before .before .before .before .before in
       back w32 (t .struct-told .given .0 .1) (λ i. block-is blocks Zero i .«base_lag»)
@@ -127,7 +127,7 @@ module _ (c : tie.After-received-inputs) where
   inputs-is : let s = begin-of blocks in c .received-inputs .result ≡ receivedInputs (given s) (s .args .rate) (bytes s)
   inputs-is =
       let s = begin-of blocks in
-      let from : Subframe → ℤ = λ k. entry lags (number k) in
+      let from : Subframe → ℤ = λ k. entry lags (ordinal k) in
       let to : Subframe → ℤ = λ k. blockAt s k .«base_lag» in
       c .received-inputs .ensures
       ∙ inputs-same (given s .postfilter) (s .args .rate) from to lag-is (signal-is (signal-of c))

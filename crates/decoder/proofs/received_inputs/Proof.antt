@@ -5,7 +5,7 @@ use lib.IntN.{ℤ}
 use mir.Syntax.{w32}
 use Rattle.integers.specs.Base.{entry}
 use Rattle.integers.specs.Signed.{read-back}
-use Rattle.layout.specs.Layout.{number}
+use Rattle.layout.specs.Layout.{ordinal}
 use Rattle.excitation.specs.Excitation.{place}
 use Rattle.excitation.specs.declared.Subframe.{Subframe}
 use Rattle.excitation.specs.declared.Subframe.the-variants.{Zero, One, Two, Three}
@@ -23,7 +23,7 @@ returns : tie.Need-returns
 returns c =
     let a = c .before .before .args in
     let x = a .signal .now in
-    let through = pitchInputs (a .rate) (λ s. entry (a .t4) (number s)) x in
+    let through = pitchInputs (a .rate) (λ s. entry (a .t4) (ordinal s)) x in
     c .plain-inputs .ensures ∙ choice-off (a .on) through (plainInputs x) (c .before .if1 .taken)
 
 array-copy-out-pitch-postfilter : tie.Need-array-copy-out-pitch-postfilter
@@ -68,7 +68,7 @@ returns-2 c =
     ∷ (x3 .pitch-postfilter3 .ensures ∙ ap (at Two) lag2) i
     ∷ (c .pitch-postfilter4 .ensures ∙ ap (at Three) lag3) i
     ∷ [])
-    ∙ choice-on (a .on) (pitchInputs (a .rate) (λ s. entry (a .t4) (number s)) x) (plainInputs x) (e .if1 .left)
+    ∙ choice-on (a .on) (pitchInputs (a .rate) (λ s. entry (a .t4) (ordinal s)) x) (plainInputs x) (e .if1 .left)
 
 pub received-inputs-spec : {M : Type 1} → statement M
 received-inputs-spec =

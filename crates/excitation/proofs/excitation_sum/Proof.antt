@@ -20,20 +20,20 @@ abbrev μ-loop : tie.MeasureT-loop
 loop-holds : tie.Need-loop-holds Inv-loop μ-loop
 loop-holds c = fills-start refl
 
-mul-limited-sample : tie.Need-mul-limited-sample Inv-loop μ-loop
-mul-limited-sample c = omega arith
+mul-sum-sample : tie.Need-mul-sum-sample Inv-loop μ-loop
+mul-sum-sample c = omega arith
 
-array-copy-out-limited-sample : tie.Need-array-copy-out-limited-sample Inv-loop μ-loop
-array-copy-out-limited-sample c = omega arith
+array-copy-out-sum-sample : tie.Need-array-copy-out-sum-sample Inv-loop μ-loop
+array-copy-out-sum-sample c = omega arith
 
-mul-limited-sample-2 : tie.Need-mul-limited-sample-2 Inv-loop μ-loop
-mul-limited-sample-2 c = omega arith
+mul-sum-sample-2 : tie.Need-mul-sum-sample-2 Inv-loop μ-loop
+mul-sum-sample-2 c = omega arith
 
-array-copy-out-limited-sample-2 : tie.Need-array-copy-out-limited-sample-2 Inv-loop μ-loop
-array-copy-out-limited-sample-2 c = omega arith
+array-copy-out-sum-sample-2 : tie.Need-array-copy-out-sum-sample-2 Inv-loop μ-loop
+array-copy-out-sum-sample-2 c = omega arith
 
-limited-sample-requires : tie.Need-limited-sample-requires Inv-loop μ-loop
-limited-sample-requires c κs = tt
+sum-sample-requires : tie.Need-sum-sample-requires Inv-loop μ-loop
+sum-sample-requires c κs = tt
 
 mul-e : tie.Need-mul-e Inv-loop μ-loop
 mul-e c = omega arith
@@ -52,9 +52,9 @@ loop-again c =
     let l = c .before .before .before .before in
     let a = l .before .args in
     let k = l .loop .n in
-    let p = read-back w32 (entry (a .t1) k) (c .before .before .limited-sample-arg .given) in
-    let q = read-back w32 (entry (a .t2) k) (c .before .limited-sample-arg2 .given) in
-    fills-next (l .loop .inv) (omega arith) (back w16 (c .limited-sample .ok) (c .limited-sample .ensures ∙ (λ j. word16 (p j +ℤ q j))))
+    let p = read-back w32 (entry (a .t1) k) (c .before .before .sum-sample-arg .given) in
+    let q = read-back w32 (entry (a .t2) k) (c .before .sum-sample-arg2 .given) in
+    fills-next (l .loop .inv) (omega arith) (back w16 (c .sum-sample .ok) (c .sum-sample .ensures ∙ (λ j. word16 (p j +ℤ q j))))
 
 returns : tie.Need-returns Inv-loop μ-loop
 unfolding limitedSum
@@ -67,11 +67,11 @@ excitation-sum-spec =
     Inv-loop
     μ-loop
     loop-holds
-    mul-limited-sample
-    array-copy-out-limited-sample
-    mul-limited-sample-2
-    array-copy-out-limited-sample-2
-    limited-sample-requires
+    mul-sum-sample
+    array-copy-out-sum-sample
+    mul-sum-sample-2
+    array-copy-out-sum-sample-2
+    sum-sample-requires
     mul-e
     array-set-from-e
     add-n

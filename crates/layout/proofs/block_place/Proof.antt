@@ -5,7 +5,7 @@ use native.Mathlib.Omega.{arith}
 use borrow.Author.Needs.{needs}
 use Rattle.excitation.specs.declared.Subframe.{Subframe}
 use Rattle.excitation.specs.declared.Rate.{Rate}
-use Rattle.layout.specs.Layout.{number, blockSize, blockPlace}
+use Rattle.layout.specs.Layout.{ordinal, blockSize, blockPlace}
 use Rattle.layout.proofs.Places.{place-bound}
 use Rattle.layout.proofs.block_place.Statement.{statement}
 use Rattle.layout.proofs.block_place.Tie as tie
@@ -41,17 +41,17 @@ module _ (c : tie.At-match2-came) where
       ⊎-elim (λ w. w .2 ∙ sym (ap blockSize (w .1 .given .1))) (λ w. w .2 ∙ sym (ap blockSize (w .1 .given .1)))
       (c .before .match .came)
 
-  number-is : c .match2 .number ≡ number s
-  number-is =
-      ⊎-elim (λ w. w .2 ∙ sym (ap number (w .1 .given .1)))
-      (⊎-elim (λ w. w .2 ∙ sym (ap number (w .1 .given .1)))
-      (⊎-elim (λ w. w .2 ∙ sym (ap number (w .1 .given .1))) (λ w. w .2 ∙ sym (ap number (w .1 .given .1)))))
+  ordinal-is : c .match2 .ordinal ≡ ordinal s
+  ordinal-is =
+      ⊎-elim (λ w. w .2 ∙ sym (ap ordinal (w .1 .given .1)))
+      (⊎-elim (λ w. w .2 ∙ sym (ap ordinal (w .1 .given .1)))
+      (⊎-elim (λ w. w .2 ∙ sym (ap ordinal (w .1 .given .1))) (λ w. w .2 ∙ sym (ap ordinal (w .1 .given .1)))))
       (c .match2 .came)
 
-  place-is : 25 + c .match2 .number * c .before .match .size ≡ blockPlace rate s
-  place-is = λ i. 25 + number-is i * size-is i
+  place-is : 25 + c .match2 .ordinal * c .before .match .size ≡ blockPlace rate s
+  place-is = λ i. 25 + ordinal-is i * size-is i
 
-  place-small : 25 + c .match2 .number * c .before .match .size ≤ 418
+  place-small : 25 + c .match2 .ordinal * c .before .match .size ≤ 418
   place-small = omega (arith, place-is, place-bound rate s)
 
 mul-result : tie.Need-mul-result

@@ -7,8 +7,8 @@ use Rattle.integers.specs.Signed.{back}
 use Rattle.basicop.specs.Operators.{word16}
 use Rattle.basicop32.specs.Operators32.{word32}
 use Rattle.integers.specs.Saturation.{saturated-twice}
-use Rattle.excitation.proofs.limited_sample.Statement.{statement}
-use Rattle.excitation.proofs.limited_sample.Tie as tie
+use Rattle.excitation.proofs.sum_sample.Statement.{statement}
+use Rattle.excitation.proofs.sum_sample.Tie as tie
 
 l-add-requires : tie.Need-l-add-requires
 l-add-requires c κs = tt
@@ -25,5 +25,5 @@ returns c =
     let read = ap (λ (y : ℤ). word16 y) (back w32 (l .ok) sum) in
     back w16 (c .saturate .ok) (c .saturate .ensures ∙ read ∙ saturated-twice 32767 2147483647 (lit≤ tt) z)
 
-pub limited-sample-spec : {M : Type 1} → statement M
-limited-sample-spec = tie.close (tie.spec l-add-requires saturate-requires returns)
+pub sum-sample-spec : {M : Type 1} → statement M
+sum-sample-spec = tie.close (tie.spec l-add-requires saturate-requires returns)
