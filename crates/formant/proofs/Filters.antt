@@ -5,15 +5,15 @@ use Prim.Native.Nat.{ℕ, zero, suc, _+_, _<_}
 use native.Mathlib.Omega.{arith}
 use lib.IntN.{ℤ, pos, _-ℤ_, _*ℤ_}
 use Rattle.integers.specs.Base.{entry, tabulate}
-use Rattle.integers.specs.Fill.{tabulate-at}
 use Rattle.synthesis.specs.Synthesis.{prediction, difference}
+use Rattle.synthesis.proofs.Samples.{read-sixty}
 use Rattle.formant.specs.Formant.{zeros, inputs, afterZeros}
 
 -- with what the zeros predict read from a list
 pub predictions-read : (a y num : List ℤ) {l : List ℤ} → l ≡ tabulate (λ n. prediction (zeros a) (inputs y num n)) 60 →
     (n : ℕ) → n < 60 → difference y l n ≡ afterZeros a y num n
 predictions-read a y num e n h =
-    ap (λ (z : ℤ). entry y n *ℤ pos 8192 -ℤ z) (ap (λ (q : List ℤ). entry q n) e ∙ tabulate-at (λ n. prediction (zeros a) (inputs y num n)) 60 n (pos 0) h)
+    ap (λ (z : ℤ). entry y n *ℤ pos 8192 -ℤ z) (read-sixty (λ n. prediction (zeros a) (inputs y num n)) e n h)
 
 module _ (y memory : List ℤ) where
   pub inputs-zero : inputs y memory 0 ≡ memory

@@ -17,6 +17,7 @@ use Rattle.integers.specs.Fill.{tabulate-at, tabulate-ext, take-tabulate, entri
 use Rattle.tables.specs.Tables.{postfilterZeros}
 use Rattle.basicop.specs.Operators.{mult16}
 use Rattle.synthesis.specs.Synthesis.{prediction}
+use Rattle.synthesis.proofs.Samples.{read-sixty}
 use Rattle.formant.specs.Formant.{weighted, inputs}
 use Rattle.formant.proofs.Filters.{inputs-zero, inputs-shift, inputs-newest}
 
@@ -74,7 +75,7 @@ module _ (w line : List ℤ) where
   pub sums-next : (j : ℕ) {l : List ℤ} → l ≡ sums j → tabulate (λ n. entry l n +ℤ entry w j *ℤ entry line (n + (9 - j))) 60 ≡ sums (j + 1)
   sums-next j {l} e =
       tabulate-ext (λ n. entry l n +ℤ term n j) (λ n. sumTo (term n) (j + 1)) 60
-      (λ n h. ap (λ (z : ℤ). z +ℤ term n j) (ap (λ (q : List ℤ). entry q n) e ∙ tabulate-at (λ n. sumTo (term n) j) 60 n (pos 0) h) ∙ sym (sum-step (term n) j))
+      (λ n h. ap (λ (z : ℤ). z +ℤ term n j) (read-sixty (λ n. sumTo (term n) j) e n h) ∙ sym (sum-step (term n) j))
 
   module _ (small : (j : ℕ) → j < 10 → Within (natAbs (entry postfilterZeros j)) (entry w j)) (fit : AllFit w16 line) where
     sum-within : (n j : ℕ) → j ≤ 10 → Within (total j) (sumTo (term n) j)

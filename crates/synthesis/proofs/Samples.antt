@@ -47,6 +47,6 @@ module _ (a : List ℤ) {u v : ℕ → ℤ} (memory : List ℤ) (alike : (n : �
   unfolding drivenMemory
   same-memory = ap (take 10) (same 60 (omega arith))
 
--- read from a list
-pub read-inputs : {l : List ℤ} (v : ℕ → ℤ) → l ≡ tabulate v 60 → (n : ℕ) → n < 60 → entry l n ≡ v n
-read-inputs v e n h = ap (λ (q : List ℤ). entry q n) e ∙ tabulate-at v 60 n (pos 0) h
+-- what is read from a list of sixty
+pub read-sixty : {l : List ℤ} (v : ℕ → ℤ) → l ≡ tabulate v 60 → (n : ℕ) → n < 60 → entry l n ≡ v n
+read-sixty v e n h = ap (λ (q : List ℤ). entry q n) e ∙ tabulate-at v 60 n (pos 0) h

@@ -1,6 +1,6 @@
 use mathlib.Core.Path.{_∙_}
 use Rattle.synthesis.specs.Synthesis.{difference}
-use Rattle.synthesis.proofs.Samples.{same-subframe, same-memory, read-inputs}
+use Rattle.synthesis.proofs.Samples.{same-subframe, same-memory, read-sixty}
 use Rattle.synthesis.proofs.pole_subframe.Statement.{statement}
 use Rattle.synthesis.proofs.pole_subframe.Tie as tie
 
@@ -13,7 +13,7 @@ driven-subframe-requires c κs = c .before .inputs-less .ensures .1
 returns : tie.Need-returns
 returns c =
     let a = c .before .before .before .args in
-    let v = read-inputs (difference (a .y .now) (a .less .now)) (c .before .before .inputs-less .ensures .0) in
+    let v = read-sixty (difference (a .y .now) (a .less .now)) (c .before .before .inputs-less .ensures .0) in
     let r = c .driven-subframe .ensures in (r .0 ∙ same-subframe (a .a) (a .mem) v, r .1 ∙ same-memory (a .a) (a .mem) v)
 
 pub pole-subframe-spec : {M : Type 1} → statement M
