@@ -61,11 +61,11 @@ fn vector(buf: &mut [u8], c: Cursor) -> Cursor {
     let d = Description {
         count: count(s[3]),
         train: s[5] == 1,
-        lag: unsigned32(s[6]),
+        base_lag: unsigned32(s[6]),
         grid: s[2] == 1,
         code: unsigned32(s[0]),
         signs: byte(s[1]),
-        gain: byte(s[4]),
+        gain_index: byte(s[4]),
     };
     print_sixty(pulses::mpmlq_fixed_vector(d));
     seven.cursor

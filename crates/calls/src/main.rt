@@ -21,7 +21,7 @@ struct Turn {
 }
 
 // The samples that are lent for a record, to its end.
-fn heard(s: State, record: &[u8], samples: &mut [i16]) -> Turn {
+fn decoded(s: State, record: &[u8], samples: &mut [i16]) -> Turn {
     let a = decoder::decode(s, record, samples);
     let v = a.verdict;
     let next = a.state;
@@ -35,9 +35,9 @@ fn heard(s: State, record: &[u8], samples: &mut [i16]) -> Turn {
 // m bytes and n samples of those that there are.
 fn cut(s: State, bytes: &[u8], m: usize, samples: &mut [i16], n: usize) -> Turn {
     if m <= bytes.len() && n <= samples.len() {
-        return heard(s, &bytes[0..m], &mut samples[0..n]);
+        return decoded(s, &bytes[0..m], &mut samples[0..n]);
     }
-    heard(s, bytes, samples)
+    decoded(s, bytes, samples)
 }
 
 // A record, with samples that are all marked before.

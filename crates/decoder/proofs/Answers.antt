@@ -9,7 +9,7 @@ use lib.ListN.{length}
 use lib.IntN.{ℤ}
 use Rattle.excitation.specs.declared.Rate.the-variants as rates
 use Rattle.numbers.specs.Numbers.{numberOf}
-use Rattle.refusals.specs.Refusals.{found}
+use Rattle.refusals.specs.Refusals.{found, numberFound}
 use Rattle.numbers.specs.declared.Refusal.{Refusal}
 use Rattle.numbers.specs.declared.Refusal.the-variants.{SampleLength, StateBounds}
 use Rattle.refusals.specs.declared.Found.{Found}
@@ -17,7 +17,7 @@ use Rattle.refusals.specs.declared.Found.the-variants.{Erased, High, Low, Refus
 use Rattle.state.specs.State.{inBounds}
 use Rattle.state.specs.declared.State.{State}
 use Rattle.decoder.specs.Frame.{erasedSamples, erasedState, receivedSamples, receivedState}
-use Rattle.decoder.specs.Decoder.{examined, refusal, acceptance, answerTo, numberTo, samplesTo, answerOf, firstNumber, samplesOf}
+use Rattle.decoder.specs.Decoder.{examined, refusal, acceptance, answerTo, samplesTo, answerOf, firstNumber, samplesOf}
 use Rattle.decoder.specs.declared.Answer.{Answer}
 
 module _ (s : State) (r : List ℕ) (samples : List ℤ) where
@@ -45,7 +45,7 @@ module _ (s : State) (r : List ℕ) (samples : List ℤ) where
       (a ≡ answerOf s r samples)
       × ((numberOf (a .verdict) ≡ firstNumber s r samples) × (o ≡ samplesOf s r samples))
 
-  number-to : (k : Found) → numberOf (answerTo k s r .verdict) ≡ numberTo k
+  number-to : (k : Found) → numberOf (answerTo k s r .verdict) ≡ numberFound k
   unfolding answerTo
   number-to (Refused n) = refl
   number-to Erased = refl
@@ -57,7 +57,7 @@ module _ (s : State) (r : List ℕ) (samples : List ℤ) where
   promised k e p q = (
     p ∙ sym (ap (λ (x : Found). answerTo x s r) e),
     (
-      ap (λ (x : Answer). numberOf (x .verdict)) p ∙ number-to k ∙ sym (ap numberTo e),
+      ap (λ (x : Answer). numberOf (x .verdict)) p ∙ number-to k ∙ sym (ap numberFound e),
       q ∙ sym (ap (λ (x : Found). samplesTo x s r samples) e),
     ),
   )

@@ -7,8 +7,7 @@ use lib.IntN.{ℤ}
 use lib.ListN.{length}
 use Rattle.tables.specs.Constants.{frameSize}
 use Rattle.excitation.specs.declared.Rate.the-variants as rates
-use Rattle.numbers.specs.Numbers.{number}
-use Rattle.refusals.specs.Refusals.{found}
+use Rattle.refusals.specs.Refusals.{found, numberFound}
 use Rattle.numbers.specs.declared.Refusal.{Refusal}
 use Rattle.numbers.specs.declared.Refusal.the-variants.{SampleLength, StateBounds}
 use Rattle.refusals.specs.declared.Found.{Found}
@@ -42,13 +41,6 @@ answerTo Erased s r = acceptance (erasedState s)
 answerTo High s r = acceptance (receivedState s rates.High r)
 answerTo Low s r = acceptance (receivedState s rates.Low r)
 
--- its number: that of the refusal, 0 where the record is accepted
-abbrev pub numberTo : Found → ℕ
-numberTo (Refused n) = number n
-numberTo Erased = 0
-numberTo High = 0
-numberTo Low = 0
-
 -- the samples: a refusal changes none
 unfoldable pub samplesTo : Found → State → List ℕ → List ℤ → List ℤ
 samplesTo (Refused n) s r samples = samples
@@ -62,7 +54,7 @@ abbrev pub answerOf : State → List ℕ → List ℤ → Answer
 answerOf s r samples = answerTo (examined s r samples) s r
 
 abbrev pub firstNumber : State → List ℕ → List ℤ → ℕ
-firstNumber s r samples = numberTo (examined s r samples)
+firstNumber s r samples = numberFound (examined s r samples)
 
 abbrev pub samplesOf : State → List ℕ → List ℤ → List ℤ
 samplesOf s r samples = samplesTo (examined s r samples) s r samples

@@ -9,13 +9,13 @@ use Rattle.tables.specs.Constants.{frameSize, classifierHistory, lspMinimum, ls
 use Rattle.stability.specs.Stability.{checkOrPrevious}
 use Rattle.lsp.specs.Lsps.{extrapolated}
 use Rattle.lpc.specs.Lpc.{frameCoefficients}
-use Rattle.excitation.specs.Excitation.{place, withSubframe, inTurn, limitedSum, tapSum, unvoicedGain}
+use Rattle.excitation.specs.Excitation.{subframePlace, withSubframe, inTurn, limitedSum, tapSum, unvoicedGain}
 use Rattle.excitation.specs.declared.Subframe.{Subframe}
 use Rattle.excitation.specs.declared.Subframe.the-variants.{Zero, One, Two, Three}
 use Rattle.adaptive.specs.Adaptive.{limitedLag, adaptive}
 use Rattle.pitch.specs.Pitch.{unchanged, postfiltered}
 use Rattle.excitation.specs.declared.Rate.{Rate}
-use Rattle.output.specs.Output.{frameHeard, frameFilters}
+use Rattle.output.specs.Output.{frameOutput, frameFilters}
 use Rattle.output.specs.declared.Filters.{Filters}
 use Rattle.voicing.specs.Voicing.{voicingOf}
 use Rattle.noise.specs.Noise.{nextRun}
@@ -34,11 +34,11 @@ eachSubframe f = f Zero ∷ f One ∷ f Two ∷ f Three ∷ []
 
 -- the excitation itself, in erased frames and with the postfilter off
 abbrev pub plainInputs : List ℤ → List (List ℤ)
-plainInputs x = eachSubframe (λ s. unchanged x (place s))
+plainInputs x = eachSubframe (λ s. unchanged x (subframePlace s))
 
 -- through the pitch postfilter, around a lag for each
 abbrev pub pitchInputs : Rate → (Subframe → ℤ) → List ℤ → List (List ℤ)
-pitchInputs rate lagOf x = eachSubframe (λ s. postfiltered x rate (place s) (limitedLag (lagOf s)))
+pitchInputs rate lagOf x = eachSubframe (λ s. postfiltered x rate (subframePlace s) (limitedLag (lagOf s)))
 
 -- ---- the end of a frame: its samples, and the next state
 
@@ -50,7 +50,7 @@ filtersOf s = record { «syn_mem» = s .«syn_mem»; pf = s .pf }
 module _ (s : State) (lsps : List ℤ) (inputs : List (List ℤ)) where
   -- its 240 samples
   abbrev pub frameSamples : List ℤ
-  frameSamples = frameHeard (s .postfilter) (frameCoefficients (s .«prev_lsp») lsps) inputs (filtersOf s)
+  frameSamples = frameOutput (s .postfilter) (frameCoefficients (s .«prev_lsp») lsps) inputs (filtersOf s)
 
   -- the memories after it
   abbrev pub filtersLast : Filters
@@ -104,7 +104,7 @@ module _ (s : State) where
 
 -- x with the excitation of a subframe, by its block: the adaptive part and the fixed vector
 abbrev pub receivedTo : Block → List ℤ → Subframe → List ℤ
-receivedTo b x k = withSubframe x (place k) (limitedSum (adaptive x (place k) (limitedLag (b .lag)) (b .taps)) (b .fixed))
+receivedTo b x k = withSubframe x (subframePlace k) (limitedSum (adaptive x (subframePlace k) (limitedLag (b .lag)) (b .taps)) (b .fixed))
 
 module _ (s : State) (rate : Rate) (r : List ℕ) where
   abbrev pub receivedLsps : List ℤ
@@ -127,7 +127,7 @@ module _ (s : State) (rate : Rate) (r : List ℕ) where
     «last_lag» = block Three .lag;
     «last_lag2» = block Two .lag;
     «last_taps_sum_q15» = tapSum (block Three .taps);
-    «last_gain_unvoiced» = pos (unvoicedGain (block Two .gain) (block Three .gain));
+    «last_gain_unvoiced» = pos (unvoicedGain (block Two .«gain_index») (block Three .«gain_index»));
     «erased_run» = 0;
   }
 

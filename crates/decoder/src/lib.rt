@@ -31,6 +31,9 @@ pub struct Answer {
     pub state: State,
 }
 
+// Where that tail starts in a frame.
+const TAIL: usize = tables::FRAME_SIZE_SAMPLES - tables::ERASURE_CLASSIFIER_HISTORY_LEN;
+
 // The tail that the classifier of erased frames reads (record_pcm_history).
 fn pcm_history(tail: &[i16]) -> [i16; 120]
     requires { ⌜ length (now tail) ≡ 120 ⌝ }
@@ -38,7 +41,7 @@ fn pcm_history(tail: &[i16]) -> [i16; 120]
 {
     let mut h = [0i16; 120];
     let mut n: usize = 0;
-    while n < 120 {
+    while n < tables::ERASURE_CLASSIFIER_HISTORY_LEN {
         h[n] = tail[n];
         n += 1;
     }
@@ -105,7 +108,7 @@ fn finish_frame(
         pf: pf,
     };
     let f = output::output_frame(samples, given.postfilter, sets, inputs, before);
-    let tail = pcm_history(&samples[120..240]);
+    let tail = pcm_history(&samples[TAIL..tables::FRAME_SIZE_SAMPLES]);
     let history = widths::history_after(&signal);
     let narrow = f.syn_mem;
     let after = widths::widen_memory(narrow);
@@ -185,7 +188,7 @@ fn decode_received(samples: &mut [i16], given: State, rate: Rate, record: &[u8])
         last_lag: b3.lag,
         last_lag2: b2.lag,
         last_taps_sum_q15: excitation::tap_sum(taps),
-        last_gain_unvoiced: excitation::unvoiced_gain(b2.gain, b3.gain),
+        last_gain_unvoiced: excitation::unvoiced_gain(b2.gain_index, b3.gain_index),
         erased_run: 0,
     };
     finish_frame(samples, given, lsps, signal, inputs, last)
@@ -215,7 +218,7 @@ pub fn decode(given: State, record: &[u8], samples: &mut [i16]) -> Answer
     ensures number { λ r. ⌜ numberOf (r .verdict) ≡ firstNumber given (now («record» .entry)) (now (samples .entry)) ⌝ }
     ensures samples { λ r. ⌜ now (samples .exit) ≡ samplesOf given (now («record» .entry)) (now (samples .entry)) ⌝ }
 {
-    if samples.len() != 240 {
+    if samples.len() != tables::FRAME_SIZE_SAMPLES {
         return refused(given, Refusal::SampleLength);
     }
     if !state::in_bounds(given) {

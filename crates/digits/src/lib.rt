@@ -358,7 +358,7 @@ pub fn sample_line(samples: [i16; 240]) -> [u8; 961]
 {
     let mut line = [10u8; 961];
     let mut i: usize = 0;
-    while i < 240 {
+    while i < tables::FRAME_SIZE_SAMPLES {
         let n = sample_image(samples[i]);
         line[4 * i] = glyph(n / 4096);
         line[4 * i + 1] = glyph(n / 256);

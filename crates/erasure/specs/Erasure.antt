@@ -5,7 +5,7 @@ use lib.IntN.{ℤ, pos}
 use Rattle.integers.specs.Base.{entry, tabulate}
 use Rattle.tables.specs.Constants.{subframeSize, excHist}
 use Rattle.basicop.specs.Operators.{mult16}
-use Rattle.excitation.specs.Excitation.{place, withSubframe, inTurn}
+use Rattle.excitation.specs.Excitation.{subframePlace, withSubframe, inTurn}
 use Rattle.excitation.specs.declared.Subframe.{Subframe}
 use Rattle.adaptive.specs.Adaptive.{limitedLag}
 use Rattle.voicing.specs.declared.Voicing.{Voicing}
@@ -22,11 +22,11 @@ replayed x p l gain = tabulate (λ n. mult16 (entry x (p - l + n % l)) gain) sub
 
 -- x with a subframe of noise, w the word at the start of the frame: it goes on from subframe to subframe
 abbrev pub noiseTo : ℤ → ℕ → List ℤ → Subframe → List ℤ
-noiseTo gain w x s = withSubframe x (place s) (noiseSubframe gain (wordAfter w (place s - excHist)))
+noiseTo gain w x s = withSubframe x (subframePlace s) (noiseSubframe gain (wordAfter w (subframePlace s - excHist)))
 
 -- x with a subframe of replay, which reads what the one before it pushed
 abbrev pub replayTo : ℕ → ℤ → List ℤ → Subframe → List ℤ
-replayTo l gain x s = withSubframe x (place s) (replayed x (place s) l gain)
+replayTo l gain x s = withSubframe x (subframePlace s) (replayed x (subframePlace s) l gain)
 
 -- all four, from the stored tap sum and unvoiced gain, and the run with this frame
 unfoldable pub erasedExcitation : Voicing → ℤ → ℤ → ℕ → List ℤ → List ℤ

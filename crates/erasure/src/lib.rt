@@ -1,21 +1,21 @@
 // The excitation of an erased frame, after the Rust's decode_erased (qdec.rs).
 ghost use mathlib.Core.Path.{_≡_};
 ghost use lib.IntN.{pos};
-ghost use Rattle.excitation.specs.Excitation.{place, inTurn};
+ghost use Rattle.excitation.specs.Excitation.{subframePlace, inTurn};
 ghost use Rattle.adaptive.specs.Adaptive.{limitedLag};
 ghost use Rattle.erasure.specs.Erasure.{replayed, noiseTo, replayTo, erasedExcitation};
 use excitation::Subframe;
 use voicing::Voicing;
 
 fn replayed_subframe(signal: &[i16; 386], s: Subframe, lag: u8, gain: i16) -> [i16; 60]
-    ensures { λ r. ⌜ r ≡ replayed (now (signal .entry)) (place s) (limitedLag (pos lag)) gain ⌝ }
+    ensures { λ r. ⌜ r ≡ replayed (now (signal .entry)) (subframePlace s) (limitedLag (pos lag)) gain ⌝ }
 {
     let l = adaptive::limited_lag(lag as i32);
     let from = excitation::subframe_place(s) - l;
     let mut out = [0i16; 60];
     let mut m: usize = 0;
     let mut n: usize = 0;
-    while n < 60 {
+    while n < tables::SUBFRAME_SIZE {
         out[n] = basicop::mult(signal[from + m], gain);
         m = if m + 1 < l { m + 1 } else { 0 };
         n += 1;

@@ -7,15 +7,15 @@ use lib.IntN.{ℤ, pos}
 use lib.Signed.{_≤ℤ_}
 use Rattle.integers.specs.Limit.{limited-bounds}
 use Rattle.tables.specs.Rules.{gain-most}
-use Rattle.excitation.specs.Excitation.{place, doubledSum, tapSum, unvoicedGain}
+use Rattle.excitation.specs.Excitation.{subframePlace, doubledSum, tapSum, unvoicedGain}
 use Rattle.excitation.specs.declared.Subframe.{Subframe}
 use Rattle.excitation.specs.declared.Subframe.the-variants.{Zero, One, Two, Three}
 
-pub place-bounds : (s : Subframe) → (146 ≤ place s) × (place s ≤ 326)
-place-bounds Zero = (lit≤ tt, lit≤ tt)
-place-bounds One = (lit≤ tt, lit≤ tt)
-place-bounds Two = (lit≤ tt, lit≤ tt)
-place-bounds Three = (lit≤ tt, lit≤ tt)
+pub subframe-place-bounds : (s : Subframe) → (146 ≤ subframePlace s) × (subframePlace s ≤ 326)
+subframe-place-bounds Zero = (lit≤ tt, lit≤ tt)
+subframe-place-bounds One = (lit≤ tt, lit≤ tt)
+subframe-place-bounds Two = (lit≤ tt, lit≤ tt)
+subframe-place-bounds Three = (lit≤ tt, lit≤ tt)
 
 pub tap-sum-bounds : (taps : List ℤ) → (pos 0 ≤ℤ tapSum taps) × (tapSum taps ≤ℤ pos 32767)
 tap-sum-bounds taps = limited-bounds (pos 0) (pos 32767) (doubledSum taps) (record { le = tt })

@@ -5,7 +5,7 @@ use Prim.Native.Nat.{ℕ, _+_, _-_, _*_, _/_, _≤_}
 use lib.IntN.{ℤ, pos, _+ℤ_, _*ℤ_}
 use lib.ListN.{take, drop, length}
 use Rattle.integers.specs.Base.{limited, sumTo, entry, tabulate}
-use Rattle.tables.specs.Constants.{subframeSize, excHist, acbTaps}
+use Rattle.tables.specs.Constants.{subframeSize, excHist, acbTaps, tapSumMax}
 use Rattle.basicop.specs.Operators.{word16}
 use Rattle.pulses.specs.Pulses.{doubledGain}
 use Rattle.excitation.specs.declared.Subframe.{Subframe}
@@ -14,11 +14,11 @@ use Rattle.excitation.specs.declared.Subframe.the-variants.{Zero, One, T
 -- ---- the signal
 
 -- the place of a subframe's first sample
-abbrev pub place : Subframe → ℕ
-place Zero = excHist
-place One = excHist + subframeSize
-place Two = excHist + 2 * subframeSize
-place Three = excHist + 3 * subframeSize
+abbrev pub subframePlace : Subframe → ℕ
+subframePlace Zero = excHist
+subframePlace One = excHist + subframeSize
+subframePlace Two = excHist + 2 * subframeSize
+subframePlace Three = excHist + 3 * subframeSize
 
 -- the history of the subframe at p: the 146 samples before it
 abbrev pub history : List ℤ → ℕ → List ℤ
@@ -50,9 +50,9 @@ limitedSum u v = tabulate (λ n. word16 (entry u n +ℤ entry v n)) subframeSize
 abbrev pub doubledSum : List ℤ → ℤ
 doubledSum taps = sumTo (entry taps) acbTaps *ℤ pos 2
 
--- limited to 0 ..= 32767
+-- limited to 0 ..= 32767, as it is stored
 abbrev pub tapSum : List ℤ → ℤ
-tapSum taps = limited (pos 0) (pos 32767) (doubledSum taps)
+tapSum taps = limited (pos 0) (pos tapSumMax) (doubledSum taps)
 
 -- half the sum of the doubled gains of two indices
 abbrev pub unvoicedGain : ℕ → ℕ → ℕ

@@ -3,7 +3,7 @@
 ghost use mathlib.Core.Path.{_≡_};
 ghost use lib.IntN.{pos, _+ℤ_};
 ghost use Rattle.basicop.specs.Operators.{word16};
-ghost use Rattle.excitation.specs.Excitation.{place, withSubframe, limitedSum, tapSum, unvoicedGain};
+ghost use Rattle.excitation.specs.Excitation.{subframePlace, withSubframe, limitedSum, tapSum, unvoicedGain};
 
 pub enum Subframe {
     Zero,
@@ -18,15 +18,24 @@ pub enum Rate {
     Low,
 }
 
+// The places of the subframes in the signal, after the history.
+const PLACE_0: usize = tables::EXC_HIST;
+
+const PLACE_1: usize = PLACE_0 + tables::SUBFRAME_SIZE;
+
+const PLACE_2: usize = PLACE_1 + tables::SUBFRAME_SIZE;
+
+const PLACE_3: usize = PLACE_2 + tables::SUBFRAME_SIZE;
+
 // The place of a subframe's first sample in the signal.
 pub fn subframe_place(s: Subframe) -> usize
-    ensures { λ r. ⌜ r ≡ place s ⌝ }
+    ensures { λ r. ⌜ r ≡ subframePlace s ⌝ }
 {
     match s {
-        Subframe::Zero => 146,
-        Subframe::One => 206,
-        Subframe::Two => 266,
-        Subframe::Three => 326,
+        Subframe::Zero => PLACE_0,
+        Subframe::One => PLACE_1,
+        Subframe::Two => PLACE_2,
+        Subframe::Three => PLACE_3,
     }
 }
 
@@ -43,7 +52,7 @@ pub fn excitation_sum(u: [i32; 60], v: [i32; 60]) -> [i16; 60]
 {
     let mut e = [0i16; 60];
     let mut n: usize = 0;
-    while n < 60 {
+    while n < tables::SUBFRAME_SIZE {
         e[n] = sum_sample(u[n], v[n]);
         n += 1;
     }
@@ -52,12 +61,12 @@ pub fn excitation_sum(u: [i32; 60], v: [i32; 60]) -> [i16; 60]
 
 // The signal with a subframe's excitation at its place. Where the Rust moves its history on, the place moves on here.
 pub fn push_excitation(signal: [i16; 386], s: Subframe, e: [i16; 60]) -> [i16; 386]
-    ensures { λ r. ⌜ r ≡ withSubframe signal (place s) e ⌝ }
+    ensures { λ r. ⌜ r ≡ withSubframe signal (subframePlace s) e ⌝ }
 {
     let p = subframe_place(s);
     let mut x = signal;
     let mut n: usize = 0;
-    while n < 60 {
+    while n < tables::SUBFRAME_SIZE {
         x[p + n] = e[n];
         n += 1;
     }
@@ -70,7 +79,7 @@ pub fn tap_sum(taps: [i16; 5]) -> i32
 {
     let mut sum: i32 = 0;
     let mut j: usize = 0;
-    while j < 5 {
+    while j < tables::ACB_TAPS {
         sum += taps[j] as i32;
         j += 1;
     }
@@ -78,8 +87,8 @@ pub fn tap_sum(taps: [i16; 5]) -> i32
     if twice < 0 {
         return 0;
     }
-    if 32767 < twice {
-        return 32767;
+    if tables::TAPS_SUM_MAX_Q15 < twice {
+        return tables::TAPS_SUM_MAX_Q15;
     }
     twice
 }

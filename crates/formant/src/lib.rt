@@ -14,7 +14,7 @@ fn weighted_coefficients(a: [i16; 10], table: [i16; 10]) -> [i16; 10]
 {
     let mut w = [0i16; 10];
     let mut i: usize = 0;
-    while i < 10 {
+    while i < tables::LPC_ORDER {
         w[i] = basicop::mult(a[i], table[i]);
         i += 1;
     }
@@ -27,7 +27,7 @@ fn oldest_first(mem: [i16; 10]) -> [i16; 70]
 {
     let mut line = [0i16; 70];
     let mut m: usize = 0;
-    while m < 10 {
+    while m < tables::LPC_ORDER {
         line[m] = mem[9 - m];
         m += 1;
     }
@@ -39,9 +39,9 @@ fn input_line(y: &[i16; 60], mem: [i16; 10]) -> [i16; 70]
     ensures { λ r. ⌜ r ≡ tabulate (λ m. entry (inputs (now (y .entry)) mem 60) (69 - m)) 70 ⌝ }
 {
     let mut line = oldest_first(mem);
-    let mut m: usize = 10;
-    while m < 70 {
-        line[m] = y[m - 10];
+    let mut m: usize = tables::LPC_ORDER;
+    while m < tables::FORMANT_SPAN {
+        line[m] = y[m - tables::LPC_ORDER];
         m += 1;
     }
     line
@@ -62,7 +62,7 @@ fn tapped(sums: [i32; 60], w: i16, line: &[i16; 70], k: usize) -> [i32; 60]
 {
     let mut out = [0i32; 60];
     let mut n: usize = 0;
-    while n < 60 {
+    while n < tables::SUBFRAME_SIZE {
         out[n] = tap(sums[n], w, line[n + k]);
         n += 1;
     }
@@ -76,7 +76,7 @@ fn zero_sums(w: [i16; 10], line: [i16; 70]) -> [i32; 60]
 {
     let mut sums = [0i32; 60];
     let mut j: usize = 0;
-    while j < 10 {
+    while j < tables::LPC_ORDER {
         let next = tapped(sums, w[j], &line, 9 - j);
         sums = next;
         j += 1;

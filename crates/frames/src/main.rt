@@ -1,5 +1,5 @@
 // Document 01's program `frames`. Here it is run on the whole case: an erased frame, a kind that does not exist, and an empty
 // line.
 fn main() {
-    program::serve();
+    program::frames();
 }

@@ -1,4 +1,4 @@
 // Run on calls: both rates, losses, trains, codes without slots, unstable LSPs, saturation, and lags that tie.
 fn main() {
-    program::serve();
+    program::frames();
 }

@@ -1,4 +1,4 @@
 // Run on no input at all.
 fn main() {
-    program::serve();
+    program::frames();
 }

@@ -1,4 +1,4 @@
 // Run on lines of which the last, a record that is accepted, has no newline.
 fn main() {
-    program::serve();
+    program::frames();
 }

@@ -85,11 +85,11 @@ module _ (w w′ : Width) (M : ℕ) (m : T (ltb M (2 ^ hbits w′))) {x : ℤ} (
   arm-below h = sym (saturated-below M x (ltZ-back-left (negsuc M) true f h))
 
   module _ (h : ltZ (pos M) (toZ w (ofZ w x)) ≡ false) (k : ltZ (toZ w (ofZ w x)) (negsuc M) ≡ false) where
-    between : mag x ≤ M
-    between = saturated-between M x (ltZ-back-right (pos M) false f h) (ltZ-back-left (negsuc M) false f k)
+    in-range : mag x ≤ M
+    in-range = saturated-between M x (ltZ-back-right (pos M) false f h) (ltZ-back-left (negsuc M) false f k)
 
     pub arm-cast : SFits w′ (toZ w (ofZ w x))
-    arm-cast = subst (SFits w′) (sym (toZ-ofZ f)) (record { sfits = lt-of-le-of-lt between (ltb→lt M (2 ^ hbits w′) m) })
+    arm-cast = subst (SFits w′) (sym (toZ-ofZ f)) (record { sfits = lt-of-le-of-lt in-range (ltb→lt M (2 ^ hbits w′) m) })
 
     pub arm-between : toZ w′ (ofZ w′ (toZ w (ofZ w x))) ≡ saturated M x
-    arm-between = toZ-ofZ arm-cast ∙ toZ-ofZ f ∙ sym (saturated-id M x between)
+    arm-between = toZ-ofZ arm-cast ∙ toZ-ofZ f ∙ sym (saturated-id M x in-range)

@@ -6,12 +6,17 @@ ghost use lib.IntN.{pos, _*ℤ_};
 ghost use Rattle.integers.specs.Base.{entry};
 ghost use Rattle.wide.specs.Value.{value};
 ghost use Rattle.correlation.specs.Correlation.{energy};
-ghost use Rattle.excitation.specs.Excitation.{place};
+ghost use Rattle.excitation.specs.Excitation.{subframePlace};
 ghost use Rattle.adaptive.specs.Adaptive.{limitedLag};
 ghost use Rattle.lags.specs.Lags.{window, lagEnergy, bestOf, chosen, chosenLag};
 ghost use Rattle.lags.specs.Search.{next, beats, Small, Leads, Inside};
 use excitation::Subframe;
 use wide::Wide;
+
+// A subframe as a count of products, and its last place.
+const SUBFRAME: u8 = tables::SUBFRAME_SIZE as u8;
+
+const LAST: usize = tables::SUBFRAME_SIZE - 1;
 
 // After the subframe, or before it.
 pub enum Direction {
@@ -63,8 +68,8 @@ fn moved_energy(x: &[i16], to: Direction, q: usize, e: u64) -> u64
     ensures { λ r. ⌜ r ≤ e + 2 ^ 30 ⌝ }
 {
     match to {
-        Direction::Forward => e + square_at(x, q + 60) - square_at(x, q),
-        Direction::Backward => e + square_at(x, q - 1) - square_at(x, q + 59),
+        Direction::Forward => e + square_at(x, q + tables::SUBFRAME_SIZE) - square_at(x, q),
+        Direction::Backward => e + square_at(x, q - 1) - square_at(x, q + LAST),
     }
 }
 
@@ -112,13 +117,13 @@ fn offered(
     ensures { λ r. ⌜ Leads (now (x .entry)) to p lo (k + 1) r ⌝ }
     ensures { λ r. ⌜ Small r ⌝ }
 {
-    if 386 < q + 60 {
+    if tables::SIGNAL_SIZE < q + tables::SUBFRAME_SIZE {
         return best;
     }
     if d == 0 {
         return best;
     }
-    let s = correlation::correlate(x, p, x, q, 60);
+    let s = correlation::correlate(x, p, x, q, SUBFRAME);
     if s <= 0 {
         return best;
     }
@@ -142,9 +147,9 @@ fn best_lag(x: &[i16], to: Direction, p: usize, lo: usize) -> Best
     ensures { λ r. ⌜ Inside to p r ⌝ }
 {
     let mut best = Best::None;
-    let mut d = correlation::energy_from(x, window_place(to, p as u16, lo as u16), 60);
+    let mut d = correlation::energy_from(x, window_place(to, p as u16, lo as u16), SUBFRAME);
     let mut k: usize = 0;
-    while k < 7 {
+    while k < tables::LAG_CANDIDATES {
         let q = window_place(to, p as u16, (lo + k) as u16);
         let b = offered(x, to, p, lo, k, q, d, best);
         best = b;
@@ -197,9 +202,9 @@ fn chosen_direction(f: Best, b: Best) -> Choice
 
 // The best lag around a lag, in the better direction.
 pub fn chosen_lag(signal: &[i16; 386], s: Subframe, lag: i32) -> Choice
-    ensures { λ r. ⌜ r ≡ chosenLag (now (signal .entry)) (place s) (limitedLag lag) ⌝ }
+    ensures { λ r. ⌜ r ≡ chosenLag (now (signal .entry)) (subframePlace s) (limitedLag lag) ⌝ }
     ensures { λ r. ⌜ Small (r .best) ⌝ }
-    ensures { λ r. ⌜ Inside (r .to) (place s) (r .best) ⌝ }
+    ensures { λ r. ⌜ Inside (r .to) (subframePlace s) (r .best) ⌝ }
 {
     let p = excitation::subframe_place(s);
     let lo = adaptive::limited_lag(lag) - tables::LAG_REACH as usize;

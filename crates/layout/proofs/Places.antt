@@ -7,12 +7,12 @@ use Rattle.excitation.specs.declared.Rate.{Rate}
 use Rattle.excitation.specs.declared.Rate.the-variants.{High, Low}
 use Rattle.layout.specs.Layout.{blockPlace}
 
-pub place-bound : (rate : Rate) (s : Subframe) → blockPlace rate s ≤ 418
-place-bound High Zero = lit≤ tt
-place-bound High One = lit≤ tt
-place-bound High Two = lit≤ tt
-place-bound High Three = lit≤ tt
-place-bound Low Zero = lit≤ tt
-place-bound Low One = lit≤ tt
-place-bound Low Two = lit≤ tt
-place-bound Low Three = lit≤ tt
+pub block-place-bound : (rate : Rate) (s : Subframe) → blockPlace rate s ≤ 418
+block-place-bound High Zero = lit≤ tt
+block-place-bound High One = lit≤ tt
+block-place-bound High Two = lit≤ tt
+block-place-bound High Three = lit≤ tt
+block-place-bound Low Zero = lit≤ tt
+block-place-bound Low One = lit≤ tt
+block-place-bound Low Two = lit≤ tt
+block-place-bound Low Three = lit≤ tt

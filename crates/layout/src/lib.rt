@@ -17,10 +17,10 @@ pub fn lag_place(s: Subframe) -> usize
     ensures { λ r. ⌜ r ≡ lagPlace s ⌝ }
 {
     match s {
-        Subframe::Zero => 21,
-        Subframe::One => 21,
-        Subframe::Two => 23,
-        Subframe::Three => 23,
+        Subframe::Zero => tables::LAG_A_PLACE,
+        Subframe::One => tables::LAG_A_PLACE,
+        Subframe::Two => tables::LAG_B_PLACE,
+        Subframe::Three => tables::LAG_B_PLACE,
     }
 }
 
@@ -29,8 +29,8 @@ pub fn block_place(rate: Rate, s: Subframe) -> usize
     ensures { λ r. ⌜ r ≡ blockPlace rate s ⌝ }
 {
     let size = match rate {
-        Rate::High => 16usize,
-        Rate::Low => 131usize,
+        Rate::High => tables::BLOCK_HIGH_BYTES,
+        Rate::Low => tables::BLOCK_LOW_BYTES,
     };
     let ordinal = match s {
         Subframe::Zero => 0usize,
@@ -38,5 +38,5 @@ pub fn block_place(rate: Rate, s: Subframe) -> usize
         Subframe::Two => 2usize,
         Subframe::Three => 3usize,
     };
-    25 + ordinal * size
+    tables::BLOCKS_PLACE + ordinal * size
 }

@@ -14,7 +14,7 @@ use Rattle.integers.specs.Natural.{le-or-lt}
 use Rattle.digits.specs.Digits.{arePairs, bytesOf}
 use Rattle.state.specs.declared.State.{State}
 use Rattle.lines.specs.Replies.{isRecordLine}
-use Rattle.lines.specs.Replay.{pushed, pushedAll, blank, characters, isRecord, isBegun}
+use Rattle.lines.specs.Stream.{pushed, pushedAll, blank, characters, isRecord, isBegun}
 use Rattle.lines.specs.Parts.{replyOf, lineReply, textReply}
 use Rattle.lines.specs.declared.Line.{Line}
 use Rattle.lines.proofs.Texts.{no-reply-of, not-when-over, begun-some-of, begun-by-over}

@@ -10,7 +10,7 @@ use lib.ListN.{length, getD, set, drop, drop-of-length-le}
 use lib.Seq.{drop-cons}
 use borrow.Author.Tests.{lt-ltb, le-ltb}
 use Rattle.lines.specs.Parts.{newlineAt}
-use Rattle.lines.specs.Replay.{pushed, pushedAll}
+use Rattle.lines.specs.Stream.{pushed, pushedAll}
 use Rattle.lines.specs.declared.Line.{Line}
 
 -- ---- the first newline

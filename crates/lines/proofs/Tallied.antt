@@ -10,12 +10,13 @@ use lib.ListN.{length, getD, length-set}
 use lib.Seq.{getD-set-same, getD-set-other}
 use borrow.Author.Tests.{eqb-true, eqb-false}
 use Rattle.counts.specs.Counts.{howMany, most, counted}
-use Rattle.decoder.specs.Decoder.{examined, numberTo}
+use Rattle.refusals.specs.Refusals.{numberFound}
+use Rattle.decoder.specs.Decoder.{examined}
 use Rattle.refusals.specs.declared.Found.{Found}
 use Rattle.refusals.specs.declared.Found.the-variants.{Erased, High, Low, Refused}
 use Rattle.numbers.specs.declared.Refusal.the-variants.{SampleLength, StateBounds, NoByte, Kind, Length, LagCode, StepCode, GainIndex, Flags, Signs}
 use Rattle.state.specs.declared.State.{State}
-use Rattle.lines.specs.Replies.{silence, numberFor, lineNumber, lineState, isRecordLine}
+use Rattle.lines.specs.Replies.{lentSamples, numberFor, lineNumber, lineState, isRecordLine}
 use Rattle.lines.specs.Output.{numbersFrom}
 use Rattle.digits.specs.Digits.{bytesOf}
 use Rattle.digits.proofs.Characters.{either}
@@ -27,7 +28,7 @@ countedAll ts (n ∷ ns) = countedAll (counted ts n) ns
 
 -- ---- every number has its place
 
-below : (f : Found) → numberTo f < 12
+below : (f : Found) → numberFound f < 12
 below (Refused SampleLength) = omega arith
 below (Refused StateBounds) = omega arith
 below (Refused NoByte) = omega arith
@@ -44,7 +45,7 @@ below Low = omega arith
 
 number-below : (b : Bool) (bytes : List ℕ) (s : State) → numberFor b bytes s < 12
 unfolding numberFor
-number-below true bytes s = below (examined s bytes silence)
+number-below true bytes s = below (examined s bytes lentSamples)
 number-below false bytes s = omega arith
 
 -- ---- one number more

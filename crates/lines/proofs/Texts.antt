@@ -19,13 +19,13 @@ use Rattle.decoder.specs.Decoder.{answerOf, firstNumber, samplesOf}
 use Rattle.decoder.specs.declared.Answer.{Answer}
 use Rattle.state.specs.State.{freshState}
 use Rattle.state.specs.declared.State.{State}
-use Rattle.lines.specs.Replies.{silence, refusalLine, numberFor, stateFor, textFor, isRecordLine}
-use Rattle.lines.specs.Replay.{textOf, characters, isRecord, isBegun, blank, freshReplay, nextLine, saidLine, endedOf, finished}
-use Rattle.lines.specs.Parts.{answerLine, replyOf, lineReply, textReply, fedBy}
+use Rattle.lines.specs.Replies.{lentSamples, refusalLine, numberFor, stateFor, textFor, isRecordLine}
+use Rattle.lines.specs.Stream.{textOf, characters, isRecord, isBegun, blank, freshStream, nextLine, endText, endedOf, finished}
+use Rattle.lines.specs.Parts.{answerLine, replyOf, lineReply, textReply, progressBy}
 use Rattle.lines.specs.declared.Line.{Line}
 use Rattle.lines.specs.declared.Text.{Text}
-use Rattle.lines.specs.declared.Replay.{Replay}
-use Rattle.lines.specs.declared.Fed.{Fed}
+use Rattle.lines.specs.declared.Stream.{Stream}
+use Rattle.lines.specs.declared.Progress.{Progress}
 use Rattle.lines.specs.declared.Reply.{Reply}
 
 -- ---- a line of samples fills its bytes
@@ -65,7 +65,7 @@ not-when-over l h = rw h
 -- ---- a record, by what the decoder promises
 
 pub record-reply : (s : State) (bytes : List ℕ) (a : Answer) (n : ℕ) (xs : List ℤ) (t : Text)
-    → a ≡ answerOf s bytes silence → n ≡ firstNumber s bytes silence → xs ≡ samplesOf s bytes silence → t ≡ textOf (answerLine n xs)
+    → a ≡ answerOf s bytes lentSamples → n ≡ firstNumber s bytes lentSamples → xs ≡ samplesOf s bytes lentSamples → t ≡ textOf (answerLine n xs)
     → record { state = a .state; number = n; text = t } ≡ replyOf true bytes s
 unfolding replyOf numberFor stateFor textFor
 record-reply s bytes a n xs t ea en ex et = λ i. record { state = ea i .state; number = en i; text = (et ∙ (λ k. textOf (answerLine (en k) (ex k)))) i }
@@ -90,19 +90,19 @@ line-text l s h n = ap (λ (b : Bool). replyOf b (bytesOf (characters l)) s) (ap
 
 -- ---- the end of a line
 
-pub ended-is : (r : Replay) (a : Reply) (f : Fed) → a ≡ lineReply (r .line) (r .state) → f ≡ fedBy (r .tallies) a 0 → f ≡ endedOf r
-unfolding endedOf nextLine saidLine replyOf
-ended-is r a f e g = g ∙ ap (λ (b : Reply). fedBy (r .tallies) b 0) e
+pub ended-is : (r : Stream) (a : Reply) (f : Progress) → a ≡ lineReply (r .line) (r .state) → f ≡ progressBy (r .tallies) a 0 → f ≡ endedOf r
+unfolding endedOf nextLine endText replyOf
+ended-is r a f e g = g ∙ ap (λ (b : Reply). progressBy (r .tallies) b 0) e
 
 -- ---- that of the input
 
-pub finish-begun : (r : Replay) (f : Fed) → isBegun (r .line) ≡ true → f ≡ endedOf r → f ≡ finished r
+pub finish-begun : (r : Stream) (f : Progress) → isBegun (r .line) ≡ true → f ≡ endedOf r → f ≡ finished r
 unfolding finished
 finish-begun r f h e = rw h e
 
-pub finish-none : (r : Replay) (t : Text) → isBegun (r .line) ≡ false → t ≡ textOf [] → record { replay = r; text = t; used = 0 } ≡ finished r
+pub finish-none : (r : Stream) (t : Text) → isBegun (r .line) ≡ false → t ≡ textOf [] → record { stream = r; text = t; used = 0 } ≡ finished r
 unfolding finished
-finish-none r t h e = rw h (λ i. record { replay = r; text = e i; used = 0 })
+finish-none r t h e = rw h (λ i. record { stream = r; text = e i; used = 0 })
 
 -- ---- whether a line has begun
 
@@ -118,6 +118,6 @@ not-begun l h = let t = neither (ltb 0 (l .len)) (l .over) h in (let n : l .len 
 
 -- ---- before its start
 
-pub fresh-is : (s : State) (l : Line) (ts : List ℕ) → s ≡ freshState true → l ≡ blank → ts ≡ replicate 12 0 → record { state = s; line = l; tallies = ts } ≡ freshReplay
-unfolding freshReplay
+pub fresh-is : (s : State) (l : Line) (ts : List ℕ) → s ≡ freshState true → l ≡ blank → ts ≡ replicate 12 0 → record { state = s; line = l; tallies = ts } ≡ freshStream
+unfolding freshStream
 fresh-is s l ts e h k = λ i. record { state = e i; line = h i; tallies = k i }

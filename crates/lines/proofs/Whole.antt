@@ -15,27 +15,27 @@ use Rattle.state.specs.State.{freshState}
 use Rattle.state.specs.declared.State.{State}
 use Rattle.lines.specs.Replies.{isRecordLine, lineNumber, lineState, lineText}
 use Rattle.lines.specs.Output.{linesFrom, linesOf, textFrom, numbersFrom, answersTo, countOf}
-use Rattle.lines.specs.Replay.{pushed, blank, characters, isRecord, isBegun, textOf, freshReplay, saidNumber, saidLine, nextLine, after, said, endedOf, finished}
+use Rattle.lines.specs.Stream.{pushed, blank, characters, isRecord, isBegun, textOf, freshStream, endNumber, endText, nextLine, streamAfter, answersFrom, endedOf, finished}
 use Rattle.lines.specs.Parts.{replyOf}
-use Rattle.lines.specs.Whole.{written, piecesText, joined, lastFed, OutputOfPieces}
+use Rattle.lines.specs.Whole.{written, piecesText, joined, lastProgress, OutputOfPieces}
 use Rattle.lines.specs.declared.Line.{Line}
-use Rattle.lines.specs.declared.Replay.{Replay}
+use Rattle.lines.specs.declared.Stream.{Stream}
 use Rattle.lines.specs.declared.Reply.{Reply}
-use Rattle.lines.specs.declared.Fed.{Fed}
+use Rattle.lines.specs.declared.Progress.{Progress}
 use Rattle.digits.proofs.Characters.{either}
 use Rattle.lines.proofs.Feeding.{withLine, byte-ends, byte-pushed}
-use Rattle.lines.proofs.Cuts.{nothing-said, nothing-carried, text-back, pieces-text, pieces-replay}
+use Rattle.lines.proofs.Cuts.{no-answer, nothing-carried, text-back, pieces-text, pieces-stream}
 use Rattle.lines.proofs.Texts.{finish-begun, finish-none}
 use Rattle.lines.proofs.Kept.{Kept, kept-blank, kept-pushed, kept-begun, kept-reply}
 use Rattle.lines.proofs.Tallied.{countedAll, tallied}
 
 -- ---- a line's end, where r keeps the characters of the line
 
-module _ (r : Replay) (line : List ℕ) (k : Kept (r .line) line) where
+module _ (r : Stream) (line : List ℕ) (k : Kept (r .line) line) where
   same : replyOf (isRecord (r .line)) (bytesOf (characters (r .line))) (r .state) ≡ replyOf (isRecordLine line) (bytesOf line) (r .state)
   same = kept-reply (r .line) line (r .state) k
 
-  pub number-same : saidNumber r ≡ lineNumber (r .state) line
+  pub number-same : endNumber r ≡ lineNumber (r .state) line
   unfolding replyOf
   number-same = ap (λ (a : Reply). a .number) same
 
@@ -43,9 +43,9 @@ module _ (r : Replay) (line : List ℕ) (k : Kept (r .line) line) where
   unfolding replyOf nextLine
   state-same = ap (λ (a : Reply). a .state) same
 
-  pub text-same : saidLine r ≡ lineText (r .state) line
-  unfolding replyOf saidLine
-  text-same = sym (text-back (saidLine r)) ∙ ap (λ (a : Reply). take (a .text .len) (a .text .bytes)) same ∙ text-back (lineText (r .state) line)
+  pub text-same : endText r ≡ lineText (r .state) line
+  unfolding replyOf endText
+  text-same = sym (text-back (endText r)) ∙ ap (λ (a : Reply). take (a .text .len) (a .text .bytes)) same ∙ text-back (lineText (r .state) line)
 
 -- ---- the definitions, one line or one byte on
 
@@ -65,116 +65,116 @@ lines-char : (line : List ℕ) (b : ℕ) (xs : List ℕ) → eqb b 10 ≡ false 
 unfolding linesFrom
 lines-char line b xs h = rw h
 
-said-end : (r : Replay) (b : ℕ) (xs : List ℕ) → eqb b 10 ≡ true → said r (b ∷ xs) ≡ saidLine r ++ said (nextLine r) xs
-unfolding said
-said-end r b xs h = rw h (ap (λ (q : Replay). saidLine r ++ said q xs) (byte-ends r b h))
+answers-end : (r : Stream) (b : ℕ) (xs : List ℕ) → eqb b 10 ≡ true → answersFrom r (b ∷ xs) ≡ endText r ++ answersFrom (nextLine r) xs
+unfolding answersFrom
+answers-end r b xs h = rw h (ap (λ (q : Stream). endText r ++ answersFrom q xs) (byte-ends r b h))
 
-said-char : (r : Replay) (b : ℕ) (xs : List ℕ) → eqb b 10 ≡ false → said r (b ∷ xs) ≡ said (withLine r (pushed (r .line) b)) xs
-unfolding said
-said-char r b xs h = rw h (ap (λ (q : Replay). said q xs) (byte-pushed r b h))
+answers-char : (r : Stream) (b : ℕ) (xs : List ℕ) → eqb b 10 ≡ false → answersFrom r (b ∷ xs) ≡ answersFrom (withLine r (pushed (r .line) b)) xs
+unfolding answersFrom
+answers-char r b xs h = rw h (ap (λ (q : Stream). answersFrom q xs) (byte-pushed r b h))
 
-after-end : (r : Replay) (b : ℕ) (xs : List ℕ) → eqb b 10 ≡ true → after r (b ∷ xs) ≡ after (nextLine r) xs
-unfolding after
-after-end r b xs h = ap (λ (q : Replay). after q xs) (byte-ends r b h)
+after-end : (r : Stream) (b : ℕ) (xs : List ℕ) → eqb b 10 ≡ true → streamAfter r (b ∷ xs) ≡ streamAfter (nextLine r) xs
+unfolding streamAfter
+after-end r b xs h = ap (λ (q : Stream). streamAfter q xs) (byte-ends r b h)
 
-after-char : (r : Replay) (b : ℕ) (xs : List ℕ) → eqb b 10 ≡ false → after r (b ∷ xs) ≡ after (withLine r (pushed (r .line) b)) xs
-unfolding after
-after-char r b xs h = ap (λ (q : Replay). after q xs) (byte-pushed r b h)
+after-char : (r : Stream) (b : ℕ) (xs : List ℕ) → eqb b 10 ≡ false → streamAfter r (b ∷ xs) ≡ streamAfter (withLine r (pushed (r .line) b)) xs
+unfolding streamAfter
+after-char r b xs h = ap (λ (q : Stream). streamAfter q xs) (byte-pushed r b h)
 
 -- the tallies after lines
 abbrev countedOf : List ℕ → State → List (List ℕ) → List ℕ
 countedOf ts s ls = countedAll ts (numbersFrom s ls)
 
-said-cons : (s : State) (l : List ℕ) (ls : List (List ℕ)) → textFrom s (l ∷ ls) ≡ lineText s l ++ textFrom (lineState s l) ls
+answers-cons : (s : State) (l : List ℕ) (ls : List (List ℕ)) → textFrom s (l ∷ ls) ≡ lineText s l ++ textFrom (lineState s l) ls
 unfolding textFrom
-said-cons s l ls = refl
+answers-cons s l ls = refl
 
 counted-cons : (ts : List ℕ) (s : State) (l : List ℕ) (ls : List (List ℕ)) → countedOf ts s (l ∷ ls) ≡ countedOf (counted ts (lineNumber s l)) (lineState s l) ls
 unfolding countedAll numbersFrom
 counted-cons ts s l ls = refl
 
-none-said : (s : State) → textFrom s [] ≡ []
+no-answers : (s : State) → textFrom s [] ≡ []
 unfolding textFrom
-none-said s = refl
+no-answers s = refl
 
 none-counted : (ts : List ℕ) (s : State) → countedOf ts s [] ≡ ts
 unfolding countedAll numbersFrom
 none-counted ts s = refl
 
-next-tallies : (r : Replay) → nextLine r .tallies ≡ counted (r .tallies) (saidNumber r)
+next-tallies : (r : Stream) → nextLine r .tallies ≡ counted (r .tallies) (endNumber r)
 unfolding nextLine
 next-tallies r = refl
 
-next-line : (r : Replay) → nextLine r .line ≡ blank
+next-line : (r : Stream) → nextLine r .line ≡ blank
 unfolding nextLine
 next-line r = refl
 
-ended-text : (r : Replay) → written (endedOf r) ≡ saidLine r
+ended-text : (r : Stream) → written (endedOf r) ≡ endText r
 unfolding endedOf
-ended-text r = text-back (saidLine r)
+ended-text r = text-back (endText r)
 
-ended-tallies : (r : Replay) → endedOf r .replay .tallies ≡ counted (r .tallies) (saidNumber r)
+ended-tallies : (r : Stream) → endedOf r .stream .tallies ≡ counted (r .tallies) (endNumber r)
 unfolding endedOf
 ended-tallies r = next-tallies r
 
 -- ---- the bytes xs after it
 
-record Comes (r : Replay) (line xs : List ℕ) : Type 0 where
-  text : said r xs ++ written (finished (after r xs)) ≡ textFrom (r .state) (linesFrom line xs)
-  tallies : finished (after r xs) .replay .tallies ≡ countedOf (r .tallies) (r .state) (linesFrom line xs)
+record Comes (r : Stream) (line xs : List ℕ) : Type 0 where
+  text : answersFrom r xs ++ written (finished (streamAfter r xs)) ≡ textFrom (r .state) (linesFrom line xs)
+  tallies : finished (streamAfter r xs) .stream .tallies ≡ countedOf (r .tallies) (r .state) (linesFrom line xs)
 
 -- none: the line is answered if there is anything of it
-comes-some : (r : Replay) (line : List ℕ) → Kept (r .line) line → 0 < length line → Comes r line []
+comes-some : (r : Stream) (line : List ℕ) → Kept (r .line) line → 0 < length line → Comes r line []
 comes-some r line k h =
     let b : isBegun (r .line) ≡ true = kept-begun (r .line) line k ∙ lt-ltb 0 (length line) h in
-    let f : finished (after r []) ≡ endedOf r = ap finished (nothing-carried r [] (omega arith)) ∙ sym (finish-begun r (endedOf r) b refl) in
+    let f : finished (streamAfter r []) ≡ endedOf r = ap finished (nothing-carried r [] (omega arith)) ∙ sym (finish-begun r (endedOf r) b refl) in
     let s = r .state in
     record {
       text =
-          (λ i. nothing-said r [] (omega arith) i ++ written (f i)) ∙ ended-text r ∙ text-same r line k ∙ sym (append-nil (lineText s line))
-          ∙ ap (λ (l : List ℕ). lineText s line ++ l) (sym (none-said (lineState s line))) ∙ sym (said-cons s line []) ∙ ap (textFrom s) (sym (lines-last line h));
+          (λ i. no-answer r [] (omega arith) i ++ written (f i)) ∙ ended-text r ∙ text-same r line k ∙ sym (append-nil (lineText s line))
+          ∙ ap (λ (l : List ℕ). lineText s line ++ l) (sym (no-answers (lineState s line))) ∙ sym (answers-cons s line []) ∙ ap (textFrom s) (sym (lines-last line h));
       tallies =
-          ap (λ (d : Fed). d .replay .tallies) f ∙ ended-tallies r ∙ ap (counted (r .tallies)) (number-same r line k)
+          ap (λ (d : Progress). d .stream .tallies) f ∙ ended-tallies r ∙ ap (counted (r .tallies)) (number-same r line k)
           ∙ sym (none-counted (counted (r .tallies) (lineNumber s line)) (lineState s line)) ∙ sym (counted-cons (r .tallies) s line [])
           ∙ ap (countedOf (r .tallies) s) (sym (lines-last line h));
     }
 
-comes-none : (r : Replay) (line : List ℕ) → Kept (r .line) line → length line ≤ 0 → Comes r line []
+comes-none : (r : Stream) (line : List ℕ) → Kept (r .line) line → length line ≤ 0 → Comes r line []
 comes-none r line k h =
     let b : isBegun (r .line) ≡ false = kept-begun (r .line) line k ∙ le-ltb 0 (length line) h in
     let f = ap finished (nothing-carried r [] (omega arith)) ∙ sym (finish-none r (textOf []) b refl) in
     record {
-      text = (λ i. nothing-said r [] (omega arith) i ++ written (f i)) ∙ sym (none-said (r .state)) ∙ ap (textFrom (r .state)) (sym (lines-none line h));
-      tallies = ap (λ (d : Fed). d .replay .tallies) f ∙ sym (none-counted (r .tallies) (r .state)) ∙ ap (countedOf (r .tallies) (r .state)) (sym (lines-none line h));
+      text = (λ i. no-answer r [] (omega arith) i ++ written (f i)) ∙ sym (no-answers (r .state)) ∙ ap (textFrom (r .state)) (sym (lines-none line h));
+      tallies = ap (λ (d : Progress). d .stream .tallies) f ∙ sym (none-counted (r .tallies) (r .state)) ∙ ap (countedOf (r .tallies) (r .state)) (sym (lines-none line h));
     }
 
-comes-end : (r : Replay) (line : List ℕ) (b : ℕ) (xs : List ℕ) → Kept (r .line) line → eqb b 10 ≡ true → Comes (nextLine r) [] xs → Comes r line (b ∷ xs)
+comes-end : (r : Stream) (line : List ℕ) (b : ℕ) (xs : List ℕ) → Kept (r .line) line → eqb b 10 ≡ true → Comes (nextLine r) [] xs → Comes r line (b ∷ xs)
 comes-end r line b xs k h c =
     let s = r .state in
     let n = nextLine r in
     record {
       text =
-          (λ i. said-end r b xs h i ++ written (finished (after-end r b xs h i))) ∙ append-assoc (saidLine r) (said n xs) (written (finished (after n xs)))
+          (λ i. answers-end r b xs h i ++ written (finished (after-end r b xs h i))) ∙ append-assoc (endText r) (answersFrom n xs) (written (finished (streamAfter n xs)))
           ∙ (λ i. text-same r line k i ++ c .text i) ∙ ap (λ (q : State). lineText s line ++ textFrom q (linesFrom [] xs)) (state-same r line k)
-          ∙ sym (said-cons s line (linesFrom [] xs)) ∙ ap (textFrom s) (sym (lines-end line b xs h));
+          ∙ sym (answers-cons s line (linesFrom [] xs)) ∙ ap (textFrom s) (sym (lines-end line b xs h));
       tallies =
-          ap (λ (q : Replay). finished q .replay .tallies) (after-end r b xs h) ∙ c .tallies
+          ap (λ (q : Stream). finished q .stream .tallies) (after-end r b xs h) ∙ c .tallies
           ∙ (λ i. countedOf ((next-tallies r ∙ ap (counted (r .tallies)) (number-same r line k)) i) (state-same r line k i) (linesFrom [] xs))
           ∙ sym (counted-cons (r .tallies) s line (linesFrom [] xs)) ∙ ap (countedOf (r .tallies) s) (sym (lines-end line b xs h));
     }
 
-comes-char : (r : Replay) (line : List ℕ) (b : ℕ) (xs : List ℕ) → eqb b 10 ≡ false
+comes-char : (r : Stream) (line : List ℕ) (b : ℕ) (xs : List ℕ) → eqb b 10 ≡ false
     → Comes (withLine r (pushed (r .line) b)) (line ++ (b ∷ [])) xs → Comes r line (b ∷ xs)
 comes-char r line b xs h c = record {
-  text = (λ i. said-char r b xs h i ++ written (finished (after-char r b xs h i))) ∙ c .text ∙ ap (textFrom (r .state)) (sym (lines-char line b xs h));
-  tallies = ap (λ (q : Replay). finished q .replay .tallies) (after-char r b xs h) ∙ c .tallies ∙ ap (countedOf (r .tallies) (r .state)) (sym (lines-char line b xs h));
+  text = (λ i. answers-char r b xs h i ++ written (finished (after-char r b xs h i))) ∙ c .text ∙ ap (textFrom (r .state)) (sym (lines-char line b xs h));
+  tallies = ap (λ (q : Stream). finished q .stream .tallies) (after-char r b xs h) ∙ c .tallies ∙ ap (countedOf (r .tallies) (r .state)) (sym (lines-char line b xs h));
 }
 
 -- the next line is kept too
-kept-next : (r : Replay) → Kept (nextLine r .line) []
+kept-next : (r : Stream) → Kept (nextLine r .line) []
 kept-next r = subst (λ (l : Line). Kept l []) (sym (next-line r)) kept-blank
 
-comes : (xs : List ℕ) (r : Replay) (line : List ℕ) → Kept (r .line) line → Comes r line xs
+comes : (xs : List ℕ) (r : Stream) (line : List ℕ) → Kept (r .line) line → Comes r line xs
 comes [] r line k = ⊎-elim (λ (h : length line ≤ 0). comes-none r line k h) (λ (h : 0 < length line). comes-some r line k h) (le-or-lt (length line) 0)
 comes (b ∷ xs) r line k =
     ⊎-elim (λ (h : eqb b 10 ≡ true). comes-end r line b xs k h (comes xs (nextLine r) [] (kept-next r)))
@@ -183,26 +183,26 @@ comes (b ∷ xs) r line k =
 
 -- ---- from the start
 
-kept-fresh : Kept (freshReplay .line) []
-unfolding freshReplay
+kept-fresh : Kept (freshStream .line) []
+unfolding freshStream
 kept-fresh = kept-blank
 
-fresh-tallies : freshReplay .tallies ≡ replicate 12 0
-unfolding freshReplay
+fresh-tallies : freshStream .tallies ≡ replicate 12 0
+unfolding freshStream
 fresh-tallies = refl
 
-fresh-state : freshReplay .state ≡ freshState true
-unfolding freshReplay
+fresh-state : freshStream .state ≡ freshState true
+unfolding freshStream
 fresh-state = refl
 
 -- no tally before the first line
 no-tally : (n : ℕ) → getD (replicate {A = ℕ} 12 0) n 0 ≡ 0
 no-tally n = ⊎-elim (λ (h : 12 ≤ n). List·getD-eq-default (replicate {A = ℕ} 12 0) 0 {n = n} (omega (arith, length-replicate {A = ℕ} 12 0))) (λ (h : n < 12). getD-replicate 12 n 0 0 h) (le-or-lt 12 n)
 
-whole : (input : List ℕ) → Comes freshReplay [] input
-whole input = comes input freshReplay [] kept-fresh
+whole : (input : List ℕ) → Comes freshStream [] input
+whole input = comes input freshStream [] kept-fresh
 
-counts-are : (input : List ℕ) (n : ℕ) → getD (finished (after freshReplay input) .replay .tallies) n 0 ≡ min (countOf input n) most
+counts-are : (input : List ℕ) (n : ℕ) → getD (finished (streamAfter freshStream input) .stream .tallies) n 0 ≡ min (countOf input n) most
 counts-are input n =
     let z = no-tally n in
     ap (λ (ts : List ℕ). getD ts n 0) (whole input .tallies ∙ (λ i. countedOf (fresh-tallies i) (fresh-state i) (linesOf input)))
@@ -214,12 +214,12 @@ counts-are input n =
 pub output-of-pieces : OutputOfPieces
 output-of-pieces ps closing c =
     let input = joined ps in
-    let p = pieces-replay freshReplay ps in
-    let last : lastFed ps ≡ finished (after freshReplay input) = ap finished p in
-    let said-all : piecesText freshReplay ps ++ written (lastFed ps) ≡ answersTo input =
-    (λ i. pieces-text freshReplay ps i ++ written (last i)) ∙ whole input .text ∙ ap (λ (q : State). textFrom q (linesOf input)) fresh-state in
-    let counts : (n : ℕ) → getD (lastFed ps .replay .tallies) n 0 ≡ min (countOf input n) most = λ n. ap (λ (d : Fed). getD (d .replay .tallies) n 0) last ∙ counts-are input n in (
+    let p = pieces-stream freshStream ps in
+    let last : lastProgress ps ≡ finished (streamAfter freshStream input) = ap finished p in
+    let answers-all : piecesText freshStream ps ++ written (lastProgress ps) ≡ answersTo input =
+    (λ i. pieces-text freshStream ps i ++ written (last i)) ∙ whole input .text ∙ ap (λ (q : State). textFrom q (linesOf input)) fresh-state in
+    let counts : (n : ℕ) → getD (lastProgress ps .stream .tallies) n 0 ≡ min (countOf input n) most = λ n. ap (λ (d : Progress). getD (d .stream .tallies) n 0) last ∙ counts-are input n in (
       closing,
-      sym (append-assoc (piecesText freshReplay ps) (written (lastFed ps)) closing) ∙ ap (λ (l : List ℕ). l ++ closing) said-all,
+      sym (append-assoc (piecesText freshStream ps) (written (lastProgress ps)) closing) ∙ ap (λ (l : List ℕ). l ++ closing) answers-all,
       subst (λ (f : ℕ → ℕ). Closes f closing) (λ i n. counts n i) c,
     )

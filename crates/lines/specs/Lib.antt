@@ -1,5 +1,5 @@
 pub mod Replies
 pub mod Output
-pub mod Replay
+pub mod Stream
 pub mod Parts
 pub mod Whole

@@ -8,8 +8,8 @@ use Rattle.digits.specs.Digits.{bytesOf, sampleLine}
 use Rattle.counts.specs.Counts.{counted}
 use Rattle.state.specs.declared.State.{State}
 use Rattle.lines.specs.Replies.{refusalLine, numberFor, stateFor, textFor, isRecordLine}
-use Rattle.lines.specs.Replay.{blank, characters, isRecord, textOf}
-use Rattle.lines.specs.declared.Fed.{Fed}
+use Rattle.lines.specs.Stream.{blank, characters, isRecord, textOf}
+use Rattle.lines.specs.declared.Progress.{Progress}
 use Rattle.lines.specs.declared.Line.{Line}
 use Rattle.lines.specs.declared.Reply.{Reply}
 
@@ -34,9 +34,9 @@ abbrev pub textReply : List ℕ → State → Reply
 textReply text s = replyOf (isRecordLine text) (bytesOf text) s
 
 -- what is carried and said after an answer, from the tallies before it, where n bytes were used
-abbrev pub fedBy : List ℕ → Reply → ℕ → Fed
-fedBy tallies a n = record {
-  replay = record { state = a .state; line = blank; tallies = counted tallies (a .number) };
+abbrev pub progressBy : List ℕ → Reply → ℕ → Progress
+progressBy tallies a n = record {
+  stream = record { state = a .state; line = blank; tallies = counted tallies (a .number) };
   text = a .text;
   used = n;
 }

@@ -11,8 +11,8 @@ use Rattle.state.specs.declared.State.{State}
 use Rattle.decoder.specs.Decoder.{answerOf, firstNumber, samplesOf}
 
 -- the samples that are lent for a line
-abbrev pub silence : List ℤ
-silence = replicate frameSize (pos 0)
+abbrev pub lentSamples : List ℤ
+lentSamples = replicate frameSize (pos 0)
 
 -- R, the two digits of the number and a newline
 abbrev pub refusalLine : ℕ → List ℕ
@@ -22,15 +22,15 @@ refusalLine n = 82 ∷ (48 + n / 10) ∷ (48 + n % 10) ∷ 10 ∷ []
 module _ (isRecord : Bool) (bytes : List ℕ) (s : State) where
   -- its number: that of the decoder, 0 where the record is accepted; 11 where the line is none
   unfoldable pub numberFor : ℕ
-  numberFor = cond isRecord (firstNumber s bytes silence) 11
+  numberFor = cond isRecord (firstNumber s bytes lentSamples) 11
 
   -- the state after it: 11 changes none
   unfoldable pub stateFor : State
-  stateFor = cond isRecord (answerOf s bytes silence .state) s
+  stateFor = cond isRecord (answerOf s bytes lentSamples .state) s
 
   -- its text: the samples, or the number
   unfoldable pub textFor : List ℕ
-  textFor = cond (eqb numberFor 0) (sampleLine (samplesOf s bytes silence)) (refusalLine numberFor)
+  textFor = cond (eqb numberFor 0) (sampleLine (samplesOf s bytes lentSamples)) (refusalLine numberFor)
 
 -- A whole line is a record if it is digit pairs and has at most 1,098 characters.
 abbrev pub isRecordLine : List ℕ → Bool

@@ -4,31 +4,31 @@ use Prim.Native.Nat.{ℕ, zero, suc}
 use lib.ListN.{length, take, drop, getD}
 use Rattle.counts.specs.Counts.{Closes}
 use Rattle.lines.specs.Output.{IsOutput}
-use Rattle.lines.specs.Replay.{freshReplay, fedOf, finished}
-use Rattle.lines.specs.declared.Replay.{Replay}
-use Rattle.lines.specs.declared.Fed.{Fed}
+use Rattle.lines.specs.Stream.{freshStream, progressOf, finished}
+use Rattle.lines.specs.declared.Stream.{Stream}
+use Rattle.lines.specs.declared.Progress.{Progress}
 
 -- what a call leaves to be written
-abbrev pub written : Fed → List ℕ
+abbrev pub written : Progress → List ℕ
 written f = take (f .text .len) (f .text .bytes)
 
 -- n calls of `feed`, each for what the one before left of the piece: what is written, and what is carried
-unfoldable pub pieceText : ℕ → Replay → List ℕ → List ℕ
+unfoldable pub pieceText : ℕ → Stream → List ℕ → List ℕ
 pieceText zero r xs = []
-pieceText (suc n) r xs = let f = fedOf r xs in written f ++ pieceText n (f .replay) (drop (f .used) xs)
+pieceText (suc n) r xs = let f = progressOf r xs in written f ++ pieceText n (f .stream) (drop (f .used) xs)
 
-unfoldable pub pieceReplay : ℕ → Replay → List ℕ → Replay
-pieceReplay zero r xs = r
-pieceReplay (suc n) r xs = let f = fedOf r xs in pieceReplay n (f .replay) (drop (f .used) xs)
+unfoldable pub pieceStream : ℕ → Stream → List ℕ → Stream
+pieceStream zero r xs = r
+pieceStream (suc n) r xs = let f = progressOf r xs in pieceStream n (f .stream) (drop (f .used) xs)
 
 -- piece after piece, each with as many calls as it has bytes, which is enough: a call takes one at the least
-unfoldable pub piecesText : Replay → List (List ℕ) → List ℕ
+unfoldable pub piecesText : Stream → List (List ℕ) → List ℕ
 piecesText r [] = []
-piecesText r (p ∷ ps) = pieceText (length p) r p ++ piecesText (pieceReplay (length p) r p) ps
+piecesText r (p ∷ ps) = pieceText (length p) r p ++ piecesText (pieceStream (length p) r p) ps
 
-unfoldable pub piecesReplay : Replay → List (List ℕ) → Replay
-piecesReplay r [] = r
-piecesReplay r (p ∷ ps) = piecesReplay (pieceReplay (length p) r p) ps
+unfoldable pub piecesStream : Stream → List (List ℕ) → Stream
+piecesStream r [] = r
+piecesStream r (p ∷ ps) = piecesStream (pieceStream (length p) r p) ps
 
 -- the input that they are pieces of
 unfoldable pub joined : List (List ℕ) → List ℕ
@@ -36,11 +36,11 @@ joined [] = []
 joined (p ∷ ps) = p ++ joined ps
 
 -- after them the line that no newline ended
-abbrev pub lastFed : List (List ℕ) → Fed
-lastFed ps = finished (piecesReplay freshReplay ps)
+abbrev pub lastProgress : List (List ℕ) → Progress
+lastProgress ps = finished (piecesStream freshStream ps)
 
 -- the text of the pieces, of `finish` and of any closing of its tallies is the output for the input
 abbrev pub OutputOfPieces : Type 0
 OutputOfPieces =
-    (ps : List (List ℕ)) (closing : List ℕ) → Closes (λ n. getD (lastFed ps .replay .tallies) n 0) closing
-    → IsOutput (joined ps) (piecesText freshReplay ps ++ (written (lastFed ps) ++ closing))
+    (ps : List (List ℕ)) (closing : List ℕ) → Closes (λ n. getD (lastProgress ps .stream .tallies) n 0) closing
+    → IsOutput (joined ps) (piecesText freshStream ps ++ (written (lastProgress ps) ++ closing))

@@ -6,8 +6,8 @@ ghost use mathlib.Core.List.{[]};
 ghost use lib.ListN.{take};
 ghost use Rattle.digits.specs.Digits.{sampleLine};
 ghost use Rattle.lines.specs.Replies.{refusalLine};
-ghost use Rattle.lines.specs.Replay.{pushedAll, blank, freshReplay, textOf, fedOf, finished};
-ghost use Rattle.lines.specs.Parts.{answerLine, replyOf, lineReply, textReply, fedBy, newlineAt};
+ghost use Rattle.lines.specs.Stream.{pushedAll, blank, freshStream, textOf, progressOf, finished};
+ghost use Rattle.lines.specs.Parts.{answerLine, replyOf, lineReply, textReply, progressBy, newlineAt};
 use state::State;
 
 // A line that has not ended: `len` characters stand in `text`. `over` says that there were more.
@@ -18,7 +18,7 @@ pub struct Line {
 }
 
 // What is carried from one piece of the input to the next. `tallies` counts lines by number, those with samples at 0.
-pub struct Replay {
+pub struct Stream {
     pub state: State,
     pub line: Line,
     pub tallies: [u64; 12],
@@ -31,8 +31,8 @@ pub struct Text {
 }
 
 // What a call took of a piece, and what is to be written.
-pub struct Fed {
-    pub replay: Replay,
+pub struct Progress {
+    pub stream: Stream,
     pub text: Text,
     pub used: usize,
 }
@@ -226,13 +226,13 @@ fn part_reply(given: State, line: Line, part: &[u8]) -> Reply
 }
 
 // What is carried on after an answer: its state, a new line, and its number counted.
-fn fed_by(tallies: [u64; 12], a: Reply, used: usize) -> Fed
-    ensures { λ r. ⌜ r ≡ fedBy tallies a used ⌝ }
+fn progress_by(tallies: [u64; 12], a: Reply, used: usize) -> Progress
+    ensures { λ r. ⌜ r ≡ progressBy tallies a used ⌝ }
 {
     let state = a.state;
     let text = a.text;
-    Fed {
-        replay: Replay {
+    Progress {
+        stream: Stream {
             state: state,
             line: blank_line(),
             tallies: counts::count(tallies, a.number),
@@ -243,10 +243,10 @@ fn fed_by(tallies: [u64; 12], a: Reply, used: usize) -> Fed
 }
 
 // Before the first piece: one fresh state, with postfilter.
-pub fn start() -> Replay
-    ensures { λ r. ⌜ r ≡ freshReplay ⌝ }
+pub fn start() -> Stream
+    ensures { λ r. ⌜ r ≡ freshStream ⌝ }
 {
-    Replay {
+    Stream {
         state: state::fresh(true),
         line: blank_line(),
         tallies: counts::no_tallies(),
@@ -254,8 +254,8 @@ pub fn start() -> Replay
 }
 
 // What a piece of the input adds, to the end of a line: the rest of the piece is for the next call.
-pub fn feed(given: Replay, input: &[u8]) -> Fed
-    ensures { λ r. ⌜ r ≡ fedOf given (now (input .entry)) ⌝ }
+pub fn feed(given: Stream, input: &[u8]) -> Progress
+    ensures { λ r. ⌜ r ≡ progressOf given (now (input .entry)) ⌝ }
 {
     let state = given.state;
     let line = given.line;
@@ -263,11 +263,11 @@ pub fn feed(given: Replay, input: &[u8]) -> Fed
     let end = newline(input);
     if end < input.len() {
         let a = part_reply(state, line, &input[..end]);
-        return fed_by(tallies, a, end + 1);
+        return progress_by(tallies, a, end + 1);
     }
     let longer = append(line, input);
-    Fed {
-        replay: Replay {
+    Progress {
+        stream: Stream {
             state: state,
             line: longer,
             tallies: tallies,
@@ -278,7 +278,7 @@ pub fn feed(given: Replay, input: &[u8]) -> Fed
 }
 
 // The end of the input: a line that no newline ended is answered too.
-pub fn finish(given: Replay) -> Fed
+pub fn finish(given: Stream) -> Progress
     ensures { λ r. ⌜ r ≡ finished given ⌝ }
 {
     let line = given.line;
@@ -286,10 +286,10 @@ pub fn finish(given: Replay) -> Fed
         let state = given.state;
         let tallies = given.tallies;
         let a = line_reply(state, line);
-        return fed_by(tallies, a, 0);
+        return progress_by(tallies, a, 0);
     }
-    Fed {
-        replay: given,
+    Progress {
+        stream: given,
         text: no_text(),
         used: 0,
     }

@@ -17,7 +17,7 @@ use Rattle.integers.specs.Saturation.{saturated-same}
 use Rattle.tables.specs.Tables.{cosines}
 use Rattle.tables.specs.Rules.{cosine-rule}
 use Rattle.basicop.specs.Operators.{word16, add16, sub16, mult16, shl16}
-use Rattle.lpc.specs.Lpc.{between, cosine}
+use Rattle.lpc.specs.Lpc.{cosineBetween, cosine}
 
 -- ---- a negative LSP is read as 0
 
@@ -43,11 +43,11 @@ module _ (d : ℤ) (r : ℕ) (s : Within 201 d) (h : r < 128) where
   pub step-within : Within 201 (floorDiv (d *ℤ pos r) 128)
   step-within = within-shr-by 201 128 (lit≤ tt) (within-le (within-mul {B = 128} s (record { within = omega arith })) (omega arith))
 
-pub between-within : (i r : ℕ) → i ≤ 255 → r < 128 → Within 16585 (between i r)
-between-within i r h k = within-add (cosine-rule i (omega arith) .size) (step-within (entry cosines (i + 1) -ℤ entry cosines i) r (next-within i h) k)
+pub cosine-between-within : (i r : ℕ) → i ≤ 255 → r < 128 → Within 16585 (cosineBetween i r)
+cosine-between-within i r h k = within-add (cosine-rule i (omega arith) .size) (step-within (entry cosines (i + 1) -ℤ entry cosines i) r (next-within i h) k)
 
 pub cosine-within : (f : ℤ) → SFits w16 f → Within 16585 (cosine f)
-cosine-within f h = between-within (up f / 128) (up f % 128) (index f h) (omega arith)
+cosine-within f h = cosine-between-within (up f / 128) (up f % 128) (index f h) (omega arith)
 
 -- ---- the operators
 

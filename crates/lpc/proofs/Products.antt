@@ -15,7 +15,7 @@ use Rattle.integers.specs.Natural.{cond-elim}
 use Rattle.integers.specs.Bound.{within-add, within-sub, within-mul, within-shr-by, within-le, within-weaken, within-lit, all-within-tabulate}
 use Rattle.integers.specs.Fill.{tabulate-at, tabulate-ext}
 use Rattle.tables.specs.Constants.{polynomialOne}
-use Rattle.lpc.specs.Lpc.{cosine, delayed, factorTerm, timesFactor, product, polynomial, roundedSum, coefficients}
+use Rattle.lpc.specs.Lpc.{cosine, coefficientBefore, factorTerm, timesFactor, product, polynomial, roundedSum, coefficients}
 use Rattle.lpc.proofs.Cosines.{cosine-within}
 
 -- ---- steps
@@ -24,7 +24,7 @@ pub product-zero : (c : ℕ → ℤ) → set (replicate 11 (pos 0)) 0 (pos polyn
 unfolding product tabulate
 product-zero c = refl
 
-delayed-entry : (f : ℕ → ℤ) (n i d : ℕ) → i < n → delayed (entry (tabulate f n)) i d ≡ delayed f i d
+delayed-entry : (f : ℕ → ℤ) (n i d : ℕ) → i < n → coefficientBefore (entry (tabulate f n)) i d ≡ coefficientBefore f i d
 delayed-entry f n i d h = ap (λ (z : ℤ). cond (ltb i d) (pos 0) z) (tabulate-at f n (i - d) (pos 0) (omega arith))
 
 times-entry : (f : ℕ → ℤ) (c : ℤ) (n i : ℕ) → i < n → timesFactor (entry (tabulate f n)) c i ≡ timesFactor f c i
@@ -40,12 +40,12 @@ product-step c k n = tabulate-ext _ _ n (λ i h. times-entry (product c k) (c k)
 
 -- ---- bounds
 
-pub delayed-within : {B : ℕ} {f : ℕ → ℤ} → ((i : ℕ) → Within B (f i)) → (i d : ℕ) → Within B (delayed f i d)
-delayed-within {B} {f} h i d = cond-elim (ltb i d) (pos 0) (f (i - d)) (Within B) (λ t. record { within = omega arith }) (λ t. h (i - d))
+pub before-within : {B : ℕ} {f : ℕ → ℤ} → ((i : ℕ) → Within B (f i)) → (i d : ℕ) → Within B (coefficientBefore f i d)
+before-within {B} {f} h i d = cond-elim (ltb i d) (pos 0) (f (i - d)) (Within B) (λ t. record { within = omega arith }) (λ t. h (i - d))
 
 times-within : (B : ℕ) {f : ℕ → ℤ} {c : ℤ} → ((i : ℕ) → Within B (f i)) → Within (2 ^ 15) c → (i : ℕ) → Within (B * 6) (timesFactor f c i)
 times-within B h w i =
-    within-le (within-add (within-sub (h i) (within-shr-by (4 * B) 8192 (lit≤ tt) (within-le (within-mul (delayed-within h i 1) w) (omega arith)))) (delayed-within h i 2))
+    within-le (within-add (within-sub (h i) (within-shr-by (4 * B) 8192 (lit≤ tt) (within-le (within-mul (before-within h i 1) w) (omega arith)))) (before-within h i 2))
     (omega arith)
 
 module _ {c : ℕ → ℤ} (h : (k : ℕ) → Within (2 ^ 15) (c k)) where

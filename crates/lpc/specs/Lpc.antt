@@ -13,16 +13,16 @@ use Rattle.lsp.specs.Lsps.{interpolated}
 -- ---- coefficients (cos_q14, lsp_to_lpc_q13, frame_lpc_q13; §2.7)
 
 -- r 128ths of the way from the table's entry i to the next, with a floor
-abbrev pub between : ℕ → ℕ → ℤ
-between i r = entry cosines i +ℤ floorDiv ((entry cosines (i + 1) -ℤ entry cosines i) *ℤ pos r) 128
+abbrev pub cosineBetween : ℕ → ℕ → ℤ
+cosineBetween i r = entry cosines i +ℤ floorDiv ((entry cosines (i + 1) -ℤ entry cosines i) *ℤ pos r) 128
 
 -- the cosine of an LSP, in 16384ths; a negative LSP is read as 0
 abbrev pub cosine : ℤ → ℤ
-cosine f = between (up f / 128) (up f % 128)
+cosine f = cosineBetween (up f / 128) (up f % 128)
 
 -- the coefficient d places before i, 0 before the first
-abbrev pub delayed : (ℕ → ℤ) → ℕ → ℕ → ℤ
-delayed f i d = cond (ltb i d) (pos 0) (f (i - d))
+abbrev pub coefficientBefore : (ℕ → ℤ) → ℕ → ℕ → ℤ
+coefficientBefore f i d = cond (ltb i d) (pos 0) (f (i - d))
 
 -- a coefficient of a polynomial times 1 - 2 c z⁻¹ + z⁻², c in 16384ths, from the polynomial's x at the same place, y one before and z two before; the product is floored
 abbrev pub factorTerm : ℤ → ℤ → ℤ → ℤ → ℤ
@@ -30,7 +30,7 @@ factorTerm c x y z = x -ℤ floorDiv (y *ℤ c) 8192 +ℤ z
 
 -- coefficient i of f times that factor
 abbrev pub timesFactor : (ℕ → ℤ) → ℤ → ℕ → ℤ
-timesFactor f c i = factorTerm c (f i) (delayed f i 1) (delayed f i 2)
+timesFactor f c i = factorTerm c (f i) (coefficientBefore f i 1) (coefficientBefore f i 2)
 
 -- coefficient i of the product of the factors of c 0, c 1, …, c (n - 1), in 2 ^ 24ths
 unfoldable pub product : (ℕ → ℤ) → ℕ → ℕ → ℤ

@@ -3,7 +3,7 @@ ghost use mathlib.Core.Path.{_≡_};
 ghost use Prim.Native.Nat.{_<_, _^_};
 ghost use Rattle.integers.specs.Base.{entry, tabulate, up, Within, AllWithin};
 ghost use Rattle.tables.specs.Tables.{cosines};
-ghost use Rattle.lpc.specs.Lpc.{cosine, delayed, factorTerm, timesFactor, polynomial, roundedSum, coefficients, frameCoefficients};
+ghost use Rattle.lpc.specs.Lpc.{cosine, coefficientBefore, factorTerm, timesFactor, polynomial, roundedSum, coefficients, frameCoefficients};
 
 // The place of an LSP in the table, in 128ths of its steps. Negative LSPs occur: stabilising holds gaps, not places.
 fn table_place(freq: i16) -> usize
@@ -38,7 +38,7 @@ pub fn cos_q14(freq: i16) -> i16
 // The coefficient d places before i, 0 before the first.
 fn earlier(p: &[i64; 11], i: usize, d: usize) -> i64
     requires { ⌜ i < 11 ⌝ }
-    ensures { λ r. ⌜ r ≡ delayed (entry (now (p .entry))) i d ⌝ }
+    ensures { λ r. ⌜ r ≡ coefficientBefore (entry (now (p .entry))) i d ⌝ }
 {
     if i < d { 0 } else { p[i - d] }
 }
@@ -59,7 +59,7 @@ fn times_factor(p: [i64; 11], c: i16) -> [i64; 11]
 {
     let mut q = [0i64; 11];
     let mut i: usize = 0;
-    while i < 11 {
+    while i < tables::LPC_PLACES {
         let y = earlier(&p, i, 1);
         let z = earlier(&p, i, 2);
         q[i] = term(c, p[i], y, z);
@@ -77,7 +77,7 @@ fn expanded(table: &[i16; 512], lsp: [i16; 10], first: usize) -> [i64; 11]
     let mut p = [0i64; 11];
     p[0] = tables::LPC_ONE_Q24;
     let mut k: usize = 0;
-    while k < 5 {
+    while k < tables::LPC_FACTORS {
         let c = cos_at(table, lsp[2 * k + first]);
         let q = times_factor(p, c);
         p = q;
@@ -107,7 +107,7 @@ fn lpc_of(table: &[i16; 512], lsp: [i16; 10]) -> [i16; 10]
     let qz = expanded(table, lsp, 1);
     let mut a = [0i16; 10];
     let mut j: usize = 0;
-    while j < 10 {
+    while j < tables::LPC_ORDER {
         a[j] = rounded_q13(pz[j + 1], pz[j], qz[j + 1], qz[j]);
         j += 1;
     }
@@ -127,7 +127,7 @@ pub fn frame_lpc_q13(prev: [i16; 10], cur: [i16; 10]) -> [[i16; 10]; 4]
     let table = tables::lsp_cosines();
     let mut out = [[0i16; 10]; 4];
     let mut k: usize = 0;
-    while k < 4 {
+    while k < tables::SUBFRAMES_PER_FRAME {
         let lsp = lsp::lsp_interpolate(k, prev, cur);
         let set = lpc_of(&table, lsp);
         out[k] = set;

@@ -16,7 +16,7 @@ fn blended(wp: i16, wc: i16, prev: [i16; 10], cur: [i16; 10]) -> [i16; 10]
 {
     let mut out = [0i16; 10];
     let mut i: usize = 0;
-    while i < 10 {
+    while i < tables::LPC_ORDER {
         out[i] = weighed(wp, wc, prev[i], cur[i]);
         i += 1;
     }
@@ -57,7 +57,7 @@ pub fn lsp_extrapolate(prev: [i16; 10]) -> [i16; 10]
     let dc = tables::lsp_dc();
     let mut out = [0i16; 10];
     let mut i: usize = 0;
-    while i < 10 {
+    while i < tables::LPC_ORDER {
         out[i] = predicted_lsp(dc[i], prev[i]);
         i += 1;
     }

@@ -1,26 +1,14 @@
--- Bounds of the attenuation, and that what is attenuated has a gain's type.
+-- What is attenuated has a gain's type.
 use Prim.Native.Nat.{ℕ, zero, suc, _*_, _≤_}
 use native.Mathlib.Nat.{lt-of-le-of-lt, mul-le-mul, le-refl}
 use native.Mathlib.Omega.{arith}
-use lib.Dec.{lit≤, ltb}
 use lib.IntN.{ℤ, pos, negsuc, negℤ, _*ℤ_}
 use lib.Signed.{mag}
 use mir.Syntax.{Width}
 use mir.Val.{SFits}
 use Rattle.integers.specs.Base.{floorDiv}
-use Rattle.integers.specs.Natural.{cond-elim}
-use Rattle.tables.specs.Constants.{erasureMuteAfter}
-use Rattle.noise.specs.Noise.{threeQuartersTo, attenuation, attenuated}
-
-pub three-quarters-most : (n : ℕ) → threeQuartersTo n ≤ 32768
-unfolding threeQuartersTo
-three-quarters-most zero = lit≤ tt
-three-quarters-most (suc n) = omega (arith, three-quarters-most n)
-
-pub attenuation-most : (run : ℕ) → attenuation run ≤ 32768
-attenuation-most run =
-    cond-elim (ltb erasureMuteAfter run) 0 (threeQuartersTo run) (λ a. a ≤ 32768)
-    (λ t. lit≤ tt) (λ t. three-quarters-most run)
+use Rattle.noise.specs.Noise.{attenuation, attenuated}
+use Rattle.noise.proofs.Attenuation.{attenuation-most}
 
 -- a factor of at most 1 in 32768ths
 mag-lessened : (g : ℤ) (a : ℕ) → a ≤ 32768 → mag (floorDiv (g *ℤ pos a) 32768) ≤ mag g

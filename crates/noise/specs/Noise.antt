@@ -1,11 +1,9 @@
 -- What the run of erased frames decides (document 01, "Erasure"; the Rust's decode_erased; §3.10.2 of G.723.1): how much is attenuated, and the noise.
-use mathlib.Core.Bool.{cond}
 use mathlib.Core.List.{List}
 use Prim.Native.Nat.{ℕ, zero, suc, _+_, _-_, _*_, _/_, _%_, _^_, min}
-use lib.Dec.{ltb}
 use lib.IntN.{ℤ, pos, _-ℤ_, _*ℤ_}
 use Rattle.integers.specs.Base.{floorDiv, tabulate}
-use Rattle.tables.specs.Constants.{subframeSize, erasureAttenuation, erasureMuteAfter, noiseStart, noiseStep, noiseFactor, noiseSummand}
+use Rattle.tables.specs.Constants.{subframeSize, noiseStart, noiseStep, noiseFactor, noiseSummand}
 use Rattle.basicop.specs.Operators.{mult16}
 
 -- ---- the run and its attenuation
@@ -14,14 +12,13 @@ use Rattle.basicop.specs.Operators.{mult16}
 abbrev pub nextRun : ℕ → ℕ
 nextRun run = min (run + 1) (2 ^ 32 - 1)
 
--- 3/4 to the n-th in 32768ths, with a floor at each step
-unfoldable pub threeQuartersTo : ℕ → ℕ
-threeQuartersTo zero = 32768
-threeQuartersTo (suc n) = threeQuartersTo n * erasureAttenuation / 32768
-
--- of the frame that is the run-th in a row, from 1: 24576, 18432, 13824 (proofs/Values.antt), and then 0
+-- of the frame that is the run-th in a row, in 32768ths; before the first nothing is attenuated (proofs/Attenuation.antt: each is 3/4 of the one before, until mute)
 abbrev pub attenuation : ℕ → ℕ
-attenuation run = cond (ltb erasureMuteAfter run) 0 (threeQuartersTo run)
+attenuation zero = 32768
+attenuation (suc zero) = 24576
+attenuation (suc (suc zero)) = 18432
+attenuation (suc (suc (suc zero))) = 13824
+attenuation (suc (suc (suc (suc n)))) = 0
 
 -- a gain so attenuated
 abbrev pub attenuated : ℤ → ℕ → ℤ

@@ -14,7 +14,7 @@ pub struct Noise {
 pub fn next_run(run: u32) -> u32
     ensures { λ r. ⌜ r ≡ nextRun run ⌝ }
 {
-    if run == 0xFFFF_FFFF { run } else { run + 1 }
+    if run == u32::MAX { run } else { run + 1 }
 }
 
 // In 32768ths.
@@ -76,7 +76,7 @@ pub fn noise_subframe(gain: i16, start: u32) -> Noise
     let mut word = start;
     let mut out = [0i16; 60];
     let mut n: usize = 0;
-    while n < 60 {
+    while n < tables::SUBFRAME_SIZE {
         let next = next_word(word);
         out[n] = basicop::mult(gain, noise_sample(next));
         word = next;

@@ -11,14 +11,14 @@ use lib.ListN.{length, take, drop, getD, length-append, length-drop, drop-of-len
 use lib.Seq.{drop-drop}
 use lib.IntN.{ℤ}
 use Rattle.integers.specs.Lent.{lent}
-use Rattle.output.specs.Output.{subframeHeard, filtersAfter, filtersAt, heardTo, frameHeard, frameFilters, heardIn, filtersIn}
+use Rattle.output.specs.Output.{subframeOutput, filtersAfter, filtersAt, outputTo, frameOutput, frameFilters, outputIn, filtersIn}
 use Rattle.output.specs.declared.Filters.{Filters}
-use Rattle.output.proofs.Subframes.{heard-length}
+use Rattle.output.proofs.Subframes.{output-length}
 
 module _ (on : Bool) (sets inputs : List (List ℤ)) (f : Filters) where
   -- the samples of subframe k
-  abbrev pub heardAt : ℕ → List ℤ
-  heardAt k = subframeHeard on (getD sets k []) (getD inputs k []) (filtersAt on sets inputs f k)
+  abbrev pub outputAt : ℕ → List ℤ
+  outputAt k = subframeOutput on (getD sets k []) (getD inputs k []) (filtersAt on sets inputs f k)
 
   pub filters-zero : f ≡ filtersAt on sets inputs f 0
   unfolding filtersAt
@@ -29,41 +29,41 @@ module _ (on : Bool) (sets inputs : List (List ℤ)) (f : Filters) where
   unfolding filtersAt
   filters-step k = rw add-one
 
-  heard-step : (k : ℕ) → heardTo on sets inputs f (k + 1) ≡ heardTo on sets inputs f k ++ heardAt k
-  unfolding heardTo
-  heard-step k = rw add-one
+  output-step : (k : ℕ) → outputTo on sets inputs f (k + 1) ≡ outputTo on sets inputs f k ++ outputAt k
+  unfolding outputTo
+  output-step k = rw add-one
 
-  pub heard-to-length : (k : ℕ) → length (heardTo on sets inputs f k) ≡ 60 * k
-  unfolding heardTo
-  heard-to-length zero = refl
-  heard-to-length (suc k) =
-      let n = heard-length on (getD sets k []) (getD inputs k []) (filtersAt on sets inputs f k) in
-      length-append (heardTo on sets inputs f k) (heardAt k) ∙ omega (arith, heard-to-length k, n)
+  pub output-to-length : (k : ℕ) → length (outputTo on sets inputs f k) ≡ 60 * k
+  unfolding outputTo
+  output-to-length zero = refl
+  output-to-length (suc k) =
+      let n = output-length on (getD sets k []) (getD inputs k []) (filtersAt on sets inputs f k) in
+      length-append (outputTo on sets inputs f k) (outputAt k) ∙ omega (arith, output-to-length k, n)
 
   -- ---- the samples while the frame is written: those of the first k subframes, then as they were
 
   abbrev pub written : List ℤ → ℕ → List ℤ
-  written o k = heardTo on sets inputs f k ++ drop (60 * k) o
+  written o k = outputTo on sets inputs f k ++ drop (60 * k) o
 
   pub written-start : (o : List ℤ) → o ≡ written o 0
-  unfolding heardTo
+  unfolding outputTo
   written-start o = refl
 
   -- subframe k has written the part of m that it was lent
   pub written-next : (o samples : List ℤ) (k m : ℕ) → m ≡ 60 → samples ≡ written o k →
-      take (60 * k) samples ++ (heardAt k ++ drop m (drop (60 * k) samples)) ≡ written o (k + 1)
+      take (60 * k) samples ++ (outputAt k ++ drop m (drop (60 * k) samples)) ≡ written o (k + 1)
   written-next o samples k m hm e =
       let n : 60 * (k + 1) ≡ 60 * k + 60 = omega arith in
-      rw (hm, e, n, heard-step k, ← drop-drop 60 (60 * k) o)
-      (lent (heardTo on sets inputs f k) (drop (60 * k) o) (heardAt k) (60 * k) 60 (heard-to-length k))
+      rw (hm, e, n, output-step k, ← drop-drop 60 (60 * k) o)
+      (lent (outputTo on sets inputs f k) (drop (60 * k) o) (outputAt k) (60 * k) 60 (output-to-length k))
 
   pub written-length : (o : List ℤ) (k : ℕ) → length o ≡ 240 → k ≤ 4 → length (written o k) ≡ 240
   written-length o k e h =
-      length-append (heardTo on sets inputs f k) (drop (60 * k) o) ∙ omega (arith, heard-to-length k, length-drop (60 * k) o)
+      length-append (outputTo on sets inputs f k) (drop (60 * k) o) ∙ omega (arith, output-to-length k, length-drop (60 * k) o)
 
-  pub written-end : (o : List ℤ) (k : ℕ) → length o ≡ 240 → k ≡ 4 → written o k ≡ heardTo on sets inputs f 4
+  pub written-end : (o : List ℤ) (k : ℕ) → length o ≡ 240 → k ≡ 4 → written o k ≡ outputTo on sets inputs f 4
   written-end o k e h =
-      let all = heardTo on sets inputs f 4 in
+      let all = outputTo on sets inputs f 4 in
       ap (written o) h ∙ ap (λ (l : List ℤ). all ++ l) (drop-of-length-le o {i = 240} (omega arith)) ∙ append-nil all
 
   -- ---- lent samples, by their length
@@ -76,12 +76,12 @@ module _ (on : Bool) (sets inputs : List (List ℤ)) (f : Filters) where
     pub filters-in : length samples ≡ 240 → filtersIn on sets inputs f samples ≡ frameFilters on sets inputs f
     filters-in h = choice (frameFilters on sets inputs f) f (eq-eqb (length samples) 240 h)
 
-    pub heard-in : length samples ≡ 240 → heardIn on sets inputs f samples ≡ frameHeard on sets inputs f
-    heard-in h = choice (frameHeard on sets inputs f) samples (eq-eqb (length samples) 240 h)
+    pub output-in : length samples ≡ 240 → outputIn on sets inputs f samples ≡ frameOutput on sets inputs f
+    output-in h = choice (frameOutput on sets inputs f) samples (eq-eqb (length samples) 240 h)
 
     -- others
     pub filters-kept : (length samples ≡ 240 → ⊥) → filtersIn on sets inputs f samples ≡ f
     filters-kept h = choice (frameFilters on sets inputs f) f (ne-eqb (length samples) 240 h)
 
-    pub samples-kept : (length samples ≡ 240 → ⊥) → heardIn on sets inputs f samples ≡ samples
-    samples-kept h = choice (frameHeard on sets inputs f) samples (ne-eqb (length samples) 240 h)
+    pub samples-kept : (length samples ≡ 240 → ⊥) → outputIn on sets inputs f samples ≡ samples
+    samples-kept h = choice (frameOutput on sets inputs f) samples (ne-eqb (length samples) 240 h)

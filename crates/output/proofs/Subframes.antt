@@ -10,19 +10,19 @@ use Rattle.integers.specs.Fill.{tabulate-length}
 use Rattle.synthesis.specs.Synthesis.{synthesised, memoryAfter, drivenSubframe}
 use Rattle.postfilter.specs.Postfilter.{filtered, postfilterAfter, gained}
 use Rattle.postfilter.specs.declared.Postfilter.{Postfilter}
-use Rattle.output.specs.Output.{synthesisOf, subframeHeard, filtersAfter}
+use Rattle.output.specs.Output.{synthesisOf, subframeOutput, filtersAfter}
 use Rattle.output.specs.declared.Filters.{Filters}
 
 module _ (on : Bool) (a x : List ℤ) (f : Filters) where
   -- ---- what is heard
 
-  pub heard-off : not on ≡ true → synthesisOf on a x f ≡ subframeHeard on a x f
-  unfolding subframeHeard
-  heard-off h = choice-off on (filtered (f .pf) a (synthesisOf on a x f)) (synthesisOf on a x f) h
+  pub output-off : not on ≡ true → synthesisOf on a x f ≡ subframeOutput on a x f
+  unfolding subframeOutput
+  output-off h = choice-off on (filtered (f .pf) a (synthesisOf on a x f)) (synthesisOf on a x f) h
 
-  pub heard-on : not on ≡ false → filtered (f .pf) a (synthesisOf on a x f) ≡ subframeHeard on a x f
-  unfolding subframeHeard
-  heard-on h = choice-on on (filtered (f .pf) a (synthesisOf on a x f)) (synthesisOf on a x f) h
+  pub output-on : not on ≡ false → filtered (f .pf) a (synthesisOf on a x f) ≡ subframeOutput on a x f
+  unfolding subframeOutput
+  output-on h = choice-on on (filtered (f .pf) a (synthesisOf on a x f)) (synthesisOf on a x f) h
 
   -- ---- the memories after it
 
@@ -55,9 +55,9 @@ filtered-length : (m : Postfilter) (a y : List ℤ) → length (filtered m a y) 
 unfolding filtered
 filtered-length m a y = gained-length _ _ _
 
-pub heard-length : (on : Bool) (a x : List ℤ) (f : Filters) → length (subframeHeard on a x f) ≡ 60
-unfolding subframeHeard
-heard-length on a x f =
+pub output-length : (on : Bool) (a x : List ℤ) (f : Filters) → length (subframeOutput on a x f) ≡ 60
+unfolding subframeOutput
+output-length on a x f =
     let y = synthesisOf on a x f in
     cond-elim on (filtered (f .pf) a y) y (λ l. length l ≡ 60)
     (λ t. filtered-length (f .pf) a y) (λ t. synthesised-length a x (f .«syn_mem»))

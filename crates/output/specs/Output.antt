@@ -18,8 +18,8 @@ module _ (on : Bool) (a x : List ℤ) (f : Filters) where
   synthesisOf = synthesised a x (f .«syn_mem»)
 
   -- its sixty samples: off, the synthesis output is the sample
-  unfoldable pub subframeHeard : List ℤ
-  subframeHeard = cond on (filtered (f .pf) a synthesisOf) synthesisOf
+  unfoldable pub subframeOutput : List ℤ
+  subframeOutput = cond on (filtered (f .pf) a synthesisOf) synthesisOf
 
   -- the memories after it: off, that of formant, tilt and gain keeps its values
   unfoldable pub filtersAfter : Filters
@@ -37,21 +37,21 @@ module _ (on : Bool) (sets inputs : List (List ℤ)) (f : Filters) where
   filtersAt (suc k) = filtersAfter on (getD sets k []) (getD inputs k []) (filtersAt k)
 
   -- the samples of the first k subframes
-  unfoldable pub heardTo : ℕ → List ℤ
-  heardTo zero = []
-  heardTo (suc k) = heardTo k ++ subframeHeard on (getD sets k []) (getD inputs k []) (filtersAt k)
+  unfoldable pub outputTo : ℕ → List ℤ
+  outputTo zero = []
+  outputTo (suc k) = outputTo k ++ subframeOutput on (getD sets k []) (getD inputs k []) (filtersAt k)
 
   -- all 240
-  abbrev pub frameHeard : List ℤ
-  frameHeard = heardTo subframesPerFrame
+  abbrev pub frameOutput : List ℤ
+  frameOutput = outputTo subframesPerFrame
 
   -- the memories after it
   abbrev pub frameFilters : Filters
   frameFilters = filtersAt subframesPerFrame
 
   -- lent samples that are not 240 stay as they are, and so do the memories; the decoder lends none such
-  abbrev pub heardIn : List ℤ → List ℤ
-  heardIn samples = cond (eqb (length samples) frameSize) frameHeard samples
+  abbrev pub outputIn : List ℤ → List ℤ
+  outputIn samples = cond (eqb (length samples) frameSize) frameOutput samples
 
   abbrev pub filtersIn : List ℤ → Filters
   filtersIn samples = cond (eqb (length samples) frameSize) frameFilters f

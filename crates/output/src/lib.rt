@@ -2,7 +2,7 @@
 ghost use mathlib.Core.Path.{_≡_};
 ghost use lib.ListN.{length};
 ghost use Rattle.postfilter.specs.Postfilter.{filtered, postfilterAfter};
-ghost use Rattle.output.specs.Output.{subframeHeard, filtersAfter, frameHeard, frameFilters, heardIn, filtersIn};
+ghost use Rattle.output.specs.Output.{subframeOutput, filtersAfter, frameOutput, frameFilters, outputIn, filtersIn};
 use postfilter::Filtered;
 use postfilter::Postfilter;
 
@@ -18,7 +18,7 @@ fn write_samples(part: &mut [i16], out: [i16; 60])
     ensures { λ r. ⌜ now (part .exit) ≡ out ⌝ }
 {
     let mut n: usize = 0;
-    while n < 60 {
+    while n < tables::SUBFRAME_SIZE {
         part[n] = out[n];
         n += 1;
     }
@@ -37,7 +37,7 @@ fn postfilter_subframe(pf: Postfilter, a: [i16; 10], y: [i16; 60]) -> Filtered
 fn output_subframe(part: &mut [i16], on: bool, a: [i16; 10], x: [i32; 60], f: Filters) -> Filters
     requires { ⌜ length (now part) ≡ 60 ⌝ }
     ensures memories { λ r. ⌜ r ≡ filtersAfter on a x f ⌝ }
-    ensures samples { λ r. ⌜ now (part .exit) ≡ subframeHeard on a x f ⌝ }
+    ensures samples { λ r. ⌜ now (part .exit) ≡ subframeOutput on a x f ⌝ }
 {
     let mem = f.syn_mem;
     let y = synthesis::synthesis_subframe(a, &x, mem);
@@ -52,9 +52,9 @@ fn output_subframe(part: &mut [i16], on: bool, a: [i16; 10], x: [i32; 60], f: Fi
         };
     }
     let z = postfilter_subframe(pf, a, out);
-    let heard = z.out;
+    let samples = z.out;
     let kept = z.pf;
-    write_samples(part, heard);
+    write_samples(part, samples);
     Filters {
         syn_mem: after,
         pf: kept,
@@ -71,15 +71,15 @@ fn output_subframes(
 ) -> Filters
     requires { ⌜ length (now samples) ≡ 240 ⌝ }
     ensures memories { λ r. ⌜ r ≡ frameFilters on sets inputs f ⌝ }
-    ensures samples { λ r. ⌜ now (samples .exit) ≡ frameHeard on sets inputs f ⌝ }
+    ensures samples { λ r. ⌜ now (samples .exit) ≡ frameOutput on sets inputs f ⌝ }
 {
     let mut g = f;
     let mut s: usize = 0;
-    while s < 4 {
+    while s < tables::SUBFRAMES_PER_FRAME {
         let a = sets[s];
         let x = inputs[s];
-        let at = 60 * s;
-        let after = output_subframe(&mut samples[at..at + 60], on, a, x, g);
+        let at = tables::SUBFRAME_SIZE * s;
+        let after = output_subframe(&mut samples[at..at + tables::SUBFRAME_SIZE], on, a, x, g);
         g = after;
         s += 1;
     }
@@ -95,9 +95,9 @@ pub fn output_frame(
     f: Filters,
 ) -> Filters
     ensures memories { λ r. ⌜ r ≡ filtersIn on sets inputs f (now (samples .entry)) ⌝ }
-    ensures samples { λ r. ⌜ now (samples .exit) ≡ heardIn on sets inputs f (now (samples .entry)) ⌝ }
+    ensures samples { λ r. ⌜ now (samples .exit) ≡ outputIn on sets inputs f (now (samples .entry)) ⌝ }
 {
-    if samples.len() != 240 {
+    if samples.len() != tables::FRAME_SIZE_SAMPLES {
         return f;
     }
     output_subframes(samples, on, sets, inputs, f)

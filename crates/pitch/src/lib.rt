@@ -6,7 +6,7 @@ ghost use lib.IntN.{pos, natAbs, _*ℤ_};
 ghost use Rattle.integers.specs.Base.{entry, tabulate, Within, AllWithin};
 ghost use Rattle.tables.specs.Constants.{pitchGate};
 ghost use Rattle.correlation.specs.Correlation.{energy};
-ghost use Rattle.excitation.specs.Excitation.{place};
+ghost use Rattle.excitation.specs.Excitation.{subframePlace};
 ghost use Rattle.adaptive.specs.Adaptive.{limitedLag};
 ghost use Rattle.lags.specs.Search.{Small, Inside};
 ghost use Rattle.pitch.specs.Pitch.{gain, gamma, weight, unchanged, mixedSample, mixed, level, levelSample, levelled, applied, postfiltered};
@@ -15,6 +15,9 @@ use excitation::Subframe;
 use lags::Best;
 use lags::Choice;
 use wide::Wide;
+
+// A subframe as a count of products.
+const SUBFRAME: u8 = tables::SUBFRAME_SIZE as u8;
 
 // Whether 4 c² is less than d t: the prediction gain is below 1.25 dB.
 fn too_weak(c: u64, d: u64, t: u64) -> bool
@@ -62,7 +65,7 @@ fn subframe(x: &[i16; 386], p: usize) -> [i32; 60]
 {
     let mut v = [0i32; 60];
     let mut n: usize = 0;
-    while n < 60 {
+    while n < tables::SUBFRAME_SIZE {
         v[n] = x[p + n] as i32;
         n += 1;
     }
@@ -85,7 +88,7 @@ fn mixed_subframe(x: &[i16; 386], p: usize, q: usize, w: u32) -> [i32; 60]
 {
     let mut v = [0i32; 60];
     let mut n: usize = 0;
-    while n < 60 {
+    while n < tables::SUBFRAME_SIZE {
         v[n] = mixed_sample(w, x[p + n], x[q + n]);
         n += 1;
     }
@@ -106,7 +109,7 @@ fn mixed_energy(v: &[i32; 60]) -> u64
 {
     let mut e: u64 = 0;
     let mut n: usize = 0;
-    while n < 60 {
+    while n < tables::SUBFRAME_SIZE {
         e = square_sum(e, v[n]);
         n += 1;
     }
@@ -138,7 +141,7 @@ fn scaled_subframe(v: [i32; 60], g: u32) -> [i32; 60]
 {
     let mut u = v;
     let mut n: usize = 0;
-    while n < 60 {
+    while n < tables::SUBFRAME_SIZE {
         u[n] = level_sample(g, v[n]);
         n += 1;
     }
@@ -180,17 +183,17 @@ fn applied_choice(x: &[i16; 386], rate: Rate, p: usize, t: u64, k: Choice) -> [i
 
 // The subframe as it is.
 pub fn plain_subframe(signal: &[i16; 386], s: Subframe) -> [i32; 60]
-    ensures { λ r. ⌜ r ≡ unchanged (now (signal .entry)) (place s) ⌝ }
+    ensures { λ r. ⌜ r ≡ unchanged (now (signal .entry)) (subframePlace s) ⌝ }
 {
     subframe(signal, excitation::subframe_place(s))
 }
 
 // A subframe of the frame's excitation, strengthened by what a pitch lag before or after it is like it.
 pub fn pitch_postfilter(signal: &[i16; 386], s: Subframe, lag: i32, rate: Rate) -> [i32; 60]
-    ensures { λ r. ⌜ r ≡ postfiltered (now (signal .entry)) rate (place s) (limitedLag lag) ⌝ }
+    ensures { λ r. ⌜ r ≡ postfiltered (now (signal .entry)) rate (subframePlace s) (limitedLag lag) ⌝ }
 {
     let p = excitation::subframe_place(s);
-    let t = correlation::energy_from(signal, p, 60);
+    let t = correlation::energy_from(signal, p, SUBFRAME);
     if t == 0 {
         return subframe(signal, p);
     }

@@ -5,6 +5,13 @@ ghost use lib.IntN.{pos};
 ghost use Rattle.integers.specs.Base.{Within};
 ghost use Rattle.postfilter.specs.Postfilter.{tiltOf, smoothed, compensatedSample, compensated, gainTarget, towards, gainAfter, gainedSample, gained, filtered, postfilterAfter};
 
+// A subframe as a count of products, the pairs of neighbours in it, and its last place.
+const SUBFRAME: u8 = tables::SUBFRAME_SIZE as u8;
+
+const SUBFRAME_PAIRS: u8 = SUBFRAME - 1;
+
+const LAST: usize = tables::SUBFRAME_SIZE - 1;
+
 // The Rust's PostfilterState.
 pub struct Postfilter {
     pub num_mem: [i16; 10],
@@ -65,7 +72,7 @@ fn compensated_subframe(k1: i16, prev: i16, z: &[i16; 60]) -> [i16; 60]
     let mut out = [0i16; 60];
     let mut before = prev;
     let mut n: usize = 0;
-    while n < 60 {
+    while n < tables::SUBFRAME_SIZE {
         let v = z[n];
         out[n] = compensated_sample(k1, v, before);
         before = v;
@@ -111,7 +118,7 @@ fn gained_subframe(t: i32, gain: i32, z: &[i16; 60]) -> Gained
     let mut g = gain;
     let mut out = [0i16; 60];
     let mut n: usize = 0;
-    while n < 60 {
+    while n < tables::SUBFRAME_SIZE {
         let next = moved_gain(t, g);
         out[n] = gained_sample(next, z[n]);
         g = next;
@@ -128,11 +135,11 @@ pub fn filtered_subframe(pf: Postfilter, a: [i16; 10], y: [i16; 60]) -> Filtered
     let den = pf.den_mem;
     let f = formant::formant_subframe(a, &y, num, den);
     let z = f.out;
-    let r0 = correlation::energy_from(&y, 0, 60);
-    let r1 = correlation::correlate(&y, 1, &y, 0, 59);
+    let r0 = correlation::energy_from(&y, 0, SUBFRAME);
+    let r1 = correlation::correlate(&y, 1, &y, 0, SUBFRAME_PAIRS);
     let k1 = smoothed_tilt(pf.tilt_k1, tilt_quotient(r1, r0));
     let v = compensated_subframe(k1, pf.tilt_prev, &z);
-    let target = gain_target(r0, correlation::energy_from(&v, 0, 60));
+    let target = gain_target(r0, correlation::energy_from(&v, 0, SUBFRAME));
     let g = gained_subframe(target, pf.agc_gain_q12, &v);
     let out = g.out;
     let num_after = filters::last_ten(&y);
@@ -142,7 +149,7 @@ pub fn filtered_subframe(pf: Postfilter, a: [i16; 10], y: [i16; 60]) -> Filtered
         pf: Postfilter {
             num_mem: num_after,
             den_mem: den_after,
-            tilt_prev: z[59],
+            tilt_prev: z[LAST],
             tilt_k1: k1,
             agc_gain_q12: g.gain,
         },

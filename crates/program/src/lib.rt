@@ -5,14 +5,14 @@ ghost use mathlib.Core.Path.{_≡_};
 ghost use mathlib.Core.Bool.{true};
 ghost use mathlib.Core.List.{List};
 ghost use Prim.Native.Nat.{ℕ};
-ghost use Rattle.lines.specs.Replay.{freshReplay, after};
+ghost use Rattle.lines.specs.Stream.{freshStream, streamAfter};
 use libc::STDIN_FILENO;
 use libc::STDOUT_FILENO;
-use lines::Replay;
+use lines::Stream;
 
 // What is carried on, whether every write was done, and whether there may be more to read.
 struct Turn {
-    replay: Replay,
+    stream: Stream,
     is_written: bool,
     more: bool,
 }
@@ -27,20 +27,20 @@ fn write(bytes: &[u8], len: usize) -> bool {
 
 // All that a piece of the input adds, by one call of `feed` after the other. What is carried is what some bytes leave, even
 // where a write failed.
-fn piece(given: Replay, input: &[u8]) -> Turn
-    ensures { λ r. ⌜ (r .«is_written» ≡ true → r .replay ≡ after given (now (input .entry))) ⌝ }
-    ensures { λ r. ⌜ ((xs : List ℕ) × (r .replay ≡ after given xs)) ⌝ }
+fn piece(given: Stream, input: &[u8]) -> Turn
+    ensures { λ r. ⌜ (r .«is_written» ≡ true → r .stream ≡ streamAfter given (now (input .entry))) ⌝ }
+    ensures { λ r. ⌜ ((xs : List ℕ) × (r .stream ≡ streamAfter given xs)) ⌝ }
 {
-    let mut replay = given;
+    let mut stream = given;
     let mut at: usize = 0;
     while at < input.len() {
-        let f = lines::feed(replay, &input[at..]);
+        let f = lines::feed(stream, &input[at..]);
         let text = f.text;
         let bytes = text.bytes;
-        replay = f.replay;
+        stream = f.stream;
         if !write(&bytes, text.len) {
             return Turn {
-                replay: replay,
+                stream: stream,
                 is_written: false,
                 more: false,
             };
@@ -48,20 +48,20 @@ fn piece(given: Replay, input: &[u8]) -> Turn
         at += f.used;
     }
     Turn {
-        replay: replay,
+        stream: stream,
         is_written: true,
         more: true,
     }
 }
 
-fn read_piece(given: Replay) -> Turn
-    ensures { λ r. ⌜ ((xs : List ℕ) × (r .replay ≡ after given xs)) ⌝ }
+fn read_piece(given: Stream) -> Turn
+    ensures { λ r. ⌜ ((xs : List ℕ) × (r .stream ≡ streamAfter given xs)) ⌝ }
 {
     let mut buf = io::large_buffer();
     let got = libc::read(STDIN_FILENO, &mut buf);
     if got <= 0 {
         return Turn {
-            replay: given,
+            stream: given,
             is_written: true,
             more: false,
         };
@@ -72,18 +72,18 @@ fn read_piece(given: Replay) -> Turn
 
 // Reads to the end of the input. A proved loop has to end, so it counts its turns down from a number that no run uses up; that
 // the end of the input is seen is tested (tests/check-program).
-fn read_all(given: Replay) -> Turn
-    ensures { λ r. ⌜ ((input : List ℕ) × (r .replay ≡ after given input)) ⌝ }
+fn read_all(given: Stream) -> Turn
+    ensures { λ r. ⌜ ((input : List ℕ) × (r .stream ≡ streamAfter given input)) ⌝ }
 {
     let mut now = Turn {
-        replay: given,
+        stream: given,
         is_written: true,
         more: true,
     };
     let mut turns = u64::MAX;
     while turns > 0 && now.more {
-        let replay = now.replay;
-        let next = read_piece(replay);
+        let stream = now.stream;
+        let next = read_piece(stream);
         now = next;
         turns -= 1;
     }
@@ -91,13 +91,13 @@ fn read_all(given: Replay) -> Turn
 }
 
 // The line that no newline ended, then the counts.
-fn close(given: Replay) {
+fn close(given: Stream) {
     let f = lines::finish(given);
     let text = f.text;
     let bytes = text.bytes;
     if write(&bytes, text.len) {
-        let replay = f.replay;
-        let tallies = replay.tallies;
+        let stream = f.stream;
+        let tallies = stream.tallies;
         let c = counts::closing_lines(tallies);
         let closing = c.bytes;
         write(&closing, c.len);
@@ -106,12 +106,12 @@ fn close(given: Replay) {
 
 // Document 01's program `frames`. It answers the tallies of the lines that ended: those that the bytes which it read leave.
 // Which bytes these are is in no contract of `read`, so that the promise says that there are such.
-pub fn serve() -> [u64; 12]
-    ensures { λ r. ⌜ ((input : List ℕ) × (r ≡ after freshReplay input .tallies)) ⌝ }
+pub fn frames() -> [u64; 12]
+    ensures { λ r. ⌜ ((input : List ℕ) × (r ≡ streamAfter freshStream input .tallies)) ⌝ }
 {
     let start = lines::start();
     let t = read_all(start);
-    let last = t.replay;
+    let last = t.stream;
     if t.is_written {
         close(last);
     }

@@ -17,9 +17,9 @@ use Rattle.tables.specs.Rules.{gain-rule, gain-distinct}
 use Rattle.positions.specs.Positions.{pulses, limit, slots}
 use Rattle.positions.specs.declared.Count.{Count}
 use Rattle.positions.specs.declared.Count.the-variants.{Five, Six}
-use Rattle.pulses.specs.Pulses.{size, place, signedBy, pulse, sample, vector, WithSlots, SameGiven, SameRest, EqualVectors, AtMostOne}
+use Rattle.pulses.specs.Pulses.{size, pulsePlace, signedBy, pulse, sample, vector, WithSlots, SameGiven, SameRest, SameSigns, EqualVectors, AtMostOne}
 use Rattle.pulses.specs.declared.Description.{Description}
-use Rattle.pulses.proofs.Walks.{slots-length, slots-code, place-below, place-order}
+use Rattle.pulses.proofs.Walks.{slots-length, slots-code, pulse-place-below, pulse-place-order}
 use Rattle.pulses.proofs.Sizes.{abs-pulse}
 use Rattle.pulses.proofs.Distinct.{sumAt, Row, rows-equal}
 use Rattle.pulses.proofs.Trains.{bare-same, sample-same}
@@ -63,6 +63,14 @@ low-bits s t zero h = omega arith
 low-bits s t (suc n) h =
     top-bit s n ∙ (λ i. h n (omega arith) i * 2 ^ n + low-bits s t n (λ b m. h b (omega arith)) i) ∙ sym (top-bit t n)
 
+pub same-signs : SameSigns
+same-signs d e v w c = (
+  λ same.
+      sym (mod-eq-of-lt (v .signs)) ∙ low-bits (d .signs) (e .signs) (pulses (d .count)) same
+      ∙ mod-eq-of-lt (subst (λ (n : Count). e .signs < 2 ^ pulses n) (sym c) (w .signs)),
+  λ equal b h. ap (λ (s : ℕ). s / 2 ^ b % 2) equal,
+)
+
 -- ---- one description: its pulses are a row
 
 some-pulses : (n : Count) → 0 < pulses n
@@ -75,14 +83,14 @@ unfolding pulse
 pulse-of d n b e h = ap (signedBy (pos (size d)) (d .signs)) (omega arith)
 
 module _ (d : Description) (w : WithSlots d) where
-  gain-below : d .gain < 24
-  gain-below = omega (arith, w .accepted .gain)
+  gain-below : d .«gain_index» < 24
+  gain-below = omega (arith, w .accepted .gainIndex)
 
   size-positive : 0 < size d
-  size-positive = omega (arith, gain-rule (d .gain) gain-below .positive)
+  size-positive = omega (arith, gain-rule (d .«gain_index») gain-below .positive)
 
-  row : Row (place d) (pulse d) subframeSize (pulses (d .count))
-  row = record { ascends = place-order d (w .below); inside = place-below d (w .below); nonzero = λ k h. rw (abs-pulse d k) size-positive }
+  row : Row (pulsePlace d) (pulse d) subframeSize (pulses (d .count))
+  row = record { ascends = pulse-place-order d (w .below); inside = pulse-place-below d (w .below); nonzero = λ k h. rw (abs-pulse d k) size-positive }
 
 -- ---- two descriptions of equal count, flag and lag, with equal samples
 
@@ -90,13 +98,13 @@ module _ {d e : Description} (v : WithSlots d) (w : WithSlots e) (s : SameGiven 
   below-too : e .code < limit (d .count)
   below-too = subst (λ (n : Count). e .code < limit n) (sym (s .count)) (w .below)
 
-  each : (k : ℕ) → k < pulses (d .count) → (place d k ≡ place e k) × (pulse d k ≡ pulse e k)
+  each : (k : ℕ) → k < pulses (d .count) → (pulsePlace d k ≡ pulsePlace e k) × (pulse d k ≡ pulse e k)
   each =
-      rows-equal (pulses (d .count)) (row d v) (subst (λ (n : Count). Row (place e) (pulse e) subframeSize (pulses n)) (sym (s .count)) (row e w))
-      (λ j h. bare-same s v w same j h ∙ ap (λ (n : Count). sumAt (place e) (pulse e) (pulses n) j) (sym (s .count)))
+      rows-equal (pulses (d .count)) (row d v) (subst (λ (n : Count). Row (pulsePlace e) (pulse e) subframeSize (pulses n)) (sym (s .count)) (row e w))
+      (λ j h. bare-same s v w same j h ∙ ap (λ (n : Count). sumAt (pulsePlace e) (pulse e) (pulses n) j) (sym (s .count)))
 
   slot-grid : (k : ℕ) → k < pulses (d .count) → (getD (slots (d .count) (d .code)) k 0 ≡ getD (slots (e .count) (e .code)) k 0) × (d .grid ≡ e .grid)
-  unfolding place
+  unfolding pulsePlace
   slot-grid k h = same-place (getD (slots (d .count) (d .code)) k 0) (getD (slots (e .count) (e .code)) k 0) (d .grid) (e .grid) (each k h .0)
 
   same-slots : slots (d .count) (d .code) ≡ slots (d .count) (e .code)
@@ -119,10 +127,8 @@ module _ {d e : Description} (v : WithSlots d) (w : WithSlots e) (s : SameGiven 
   same-rest = record {
     grid = slot-grid 0 (some-pulses (d .count)) .1;
     code = slots-code (d .count) (d .code) (e .code) (v .below) below-too same-slots;
-    signs =
-        sym (mod-eq-of-lt (v .accepted .signs)) ∙ low-bits (d .signs) (e .signs) (pulses (d .count)) same-bits
-        ∙ mod-eq-of-lt (subst (λ (n : Count). e .signs < 2 ^ pulses n) (sym (s .count)) (w .accepted .signs));
-    gain = gain-distinct (d .gain) (e .gain) (gain-below d v) (gain-below e w) (omega (arith, same-size));
+    signs = same-signs d e (v .accepted) (w .accepted) (s .count) .0 same-bits;
+    gainIndex = gain-distinct (d .«gain_index») (e .«gain_index») (gain-below d v) (gain-below e w) (omega (arith, same-size));
   }
 
 -- ---- the theorem
@@ -139,5 +145,5 @@ equal-vectors d e v w s = (
 
 pub at-most-one : AtMostOne
 at-most-one d e v w count train lag same =
-    let r = equal-vectors d e v w (record { count = count; train = train; lag = λ t. lag }) .0 (λ j h. ap (λ (xs : List ℤ). entry xs j) same) in
-    λ i. record { count = count i; train = train i; lag = lag i; grid = r .grid i; code = r .code i; signs = r .signs i; gain = r .gain i }
+    let r = equal-vectors d e v w (record { count = count; train = train; baseLag = λ t. lag }) .0 (λ j h. ap (λ (xs : List ℤ). entry xs j) same) in
+    λ i. record { count = count i; train = train i; «base_lag» = lag i; grid = r .grid i; code = r .code i; signs = r .signs i; «gain_index» = r .gainIndex i }

@@ -17,9 +17,9 @@ use Rattle.integers.specs.Sum.{sum-step, within-sum-to}
 use Rattle.integers.specs.Fill.{tabulate-at, tabulate-ext}
 use Rattle.positions.specs.Positions.{pulses, limit, slots, bits}
 use Rattle.positions.proofs.Bits.{double, pulses-few}
-use Rattle.pulses.specs.Pulses.{size, place, signedBy, pulse, repeats, period, reaches, term, sample, vector}
+use Rattle.pulses.specs.Pulses.{size, pulsePlace, signedBy, pulse, repeats, period, reaches, term, sample, vector}
 use Rattle.pulses.specs.declared.Description.{Description}
-use Rattle.pulses.proofs.Walks.{Ascends, ascends-from, slots-length, slots-ascend, place-below}
+use Rattle.pulses.proofs.Walks.{Ascends, ascends-from, slots-length, slots-ascend, pulse-place-below}
 use Rattle.pulses.proofs.Sizes.{abs-pulse, size-most}
 use Rattle.pulses.proofs.Repeats.{repeats-reaches}
 
@@ -82,7 +82,7 @@ part d k j = sumTo (term d j) k
 
 term-within : (d : Description) (j i : ℕ) → Within 13246 (term d j i)
 term-within d j i =
-    cond-elim (reaches d (place d i) j) (pulse d i) (pos 0) (Within 13246) (λ t. record { within = rw (abs-pulse d i) (size-most d .within) }) (λ t. within-lit tt)
+    cond-elim (reaches d (pulsePlace d i) j) (pulse d i) (pos 0) (Within 13246) (λ t. record { within = rw (abs-pulse d i) (size-most d .within) }) (λ t. within-lit tt)
 
 -- the slots from the k-th on
 abbrev pub others : Description → ℕ → List ℕ
@@ -147,8 +147,8 @@ module _ {d : Description} (h : d .code < limit (d .count)) where
               ap (λ (ps : List ℕ). getD ps 0 0) (sym (first .is)) ∙ getD-drop k (slots (d .count) (d .code)) 0 0
               ∙ ap (λ (n : ℕ). getD (slots (d .count) (d .code)) n 0) z
 
-          place-is : 2 * slot + grid ≡ place d k
-          unfolding place
+          place-is : 2 * slot + grid ≡ pulsePlace d k
+          unfolding pulsePlace
           place-is = λ t. 2 * slot-is t + g t
 
           pulse-is : amp ≡ pulse d k
@@ -158,7 +158,7 @@ module _ {d : Description} (h : d .code < limit (d .count)) where
           added : (j : ℕ) → j < 60 → entry v j +ℤ cond (repeats step (2 * slot + grid) j) amp (pos 0) ≡ part d (k + 1) j
           added j m =
               let x = ap (λ (xs : List ℤ). entry xs j) (r .is) ∙ tabulate-at (part d k) 60 j (pos 0) m in
-              let c = (λ t. repeats (s t) (place-is t) j) ∙ repeats-reaches d (place d k) j (place-below d h k more) m in
+              let c = (λ t. repeats (s t) (place-is t) j) ∙ repeats-reaches d (pulsePlace d k) j (pulse-place-below d h k more) m in
               (λ t. x t +ℤ cond (c t) (pulse-is t) (pos 0)) ∙ sym (sum-step (term d j) k)
 
           tail-is : first .tail ≡ others d (k + 1)

@@ -23,7 +23,7 @@ unfolding pulse
 abs-pulse d k = abs-signed (pos (size d)) (d .signs) _
 
 pub size-most : (d : Description) → Within 13246 (pos (size d))
-size-most d = record { within = omega (arith, gain-most (d .gain)) }
+size-most d = record { within = omega (arith, gain-most (d .«gain_index»)) }
 
 pub signed-most : {z : ℤ} (s b : ℕ) → Within 13246 z → Within 13246 (signedBy z s b)
 signed-most {z} s b w = record { within = rw (abs-signed z s b) (w .within) }

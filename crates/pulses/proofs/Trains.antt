@@ -13,7 +13,7 @@ use Rattle.integers.specs.Linear.{line, line-add, add-cancel}
 use Rattle.integers.specs.Natural.{le-or-lt}
 use Rattle.tables.specs.Constants.{subframeSize}
 use Rattle.positions.specs.Positions.{pulses, limit}
-use Rattle.pulses.specs.Pulses.{place, pulse, repeats, period, reaches, term, sample, WithSlots, SameGiven, SameRest}
+use Rattle.pulses.specs.Pulses.{pulsePlace, pulse, repeats, period, reaches, term, sample, WithSlots, SameGiven, SameRest}
 use Rattle.pulses.specs.declared.Description.{Description}
 use Rattle.pulses.proofs.Distinct.{sumAt}
 use Rattle.pulses.proofs.Repeats.{repeats-earlier, repeats-here, repeats-between}
@@ -78,30 +78,30 @@ module _ (m : ℕ) (hm : 0 < m) (p : ℕ → ℕ) (a : ℕ → ℤ) where
 
 -- the sum of the pulses that stand at j
 abbrev pub bare : Description → ℕ → ℤ
-bare d j = sumAt (place d) (pulse d) (pulses (d .count)) j
+bare d j = sumAt (pulsePlace d) (pulse d) (pulses (d .count)) j
 
 -- for a code with slots, by the flag
 sample-sum : (d : Description) (j : ℕ) (t : Bool) → d .code < limit (d .count) → d .train ≡ t
-    → sample d j ≡ sumTo (λ k. cond (cond t (repeats (period d) (place d k) j) (eqb (place d k) j)) (pulse d k) (pos 0)) (pulses (d .count))
+    → sample d j ≡ sumTo (λ k. cond (cond t (repeats (period d) (pulsePlace d k) j) (eqb (pulsePlace d k) j)) (pulse d k) (pos 0)) (pulses (d .count))
 unfolding sample reaches
 sample-sum d j t h e =
     ap (λ (b : Bool). cond b (sumTo (term d j) (pulses (d .count))) (pos 0)) (lt-ltb (d .code) (limit (d .count)) h)
-    ∙ ap (λ (f : Bool). sumTo (λ k. cond (cond f (repeats (period d) (place d k) j) (eqb (place d k) j)) (pulse d k) (pos 0)) (pulses (d .count))) e
+    ∙ ap (λ (f : Bool). sumTo (λ k. cond (cond f (repeats (period d) (pulsePlace d k) j) (eqb (pulsePlace d k) j)) (pulse d k) (pos 0)) (pulses (d .count))) e
 
 sample-train : (d : Description) (j : ℕ) → d .code < limit (d .count) → d .train ≡ true
     → sample d j ≡ bare d j +ℤ cond (leb (period d) j) (sample d (j - period d)) (pos 0)
 sample-train d j h t =
-    sample-sum d j true h t ∙ again (period d) (omega arith) (place d) (pulse d) (pulses (d .count)) j
+    sample-sum d j true h t ∙ again (period d) (omega arith) (pulsePlace d) (pulse d) (pulses (d .count)) j
     ∙ ap (λ (z : ℤ). bare d j +ℤ cond (leb (period d) j) z (pos 0)) (sym (sample-sum d (j - period d) true h t))
 
 -- ---- two descriptions of equal count, flag and lag
 
 -- with the flag clear the lag plays no part
 sample-clear : (d : Description) (j : ℕ) → d .train ≡ false
-    → sample d j ≡ sample (record { count = d .count; train = false; lag = 0; grid = d .grid; code = d .code; signs = d .signs; gain = d .gain }) j
-unfolding sample reaches place pulse
+    → sample d j ≡ sample (record { count = d .count; train = false; «base_lag» = 0; grid = d .grid; code = d .code; signs = d .signs; «gain_index» = d .«gain_index» }) j
+unfolding sample reaches pulsePlace pulse
 sample-clear d j t =
-    λ i. sample (record { count = d .count; train = t i; lag = d .lag; grid = d .grid; code = d .code; signs = d .signs; gain = d .gain }) j
+    λ i. sample (record { count = d .count; train = t i; «base_lag» = d .«base_lag»; grid = d .grid; code = d .code; signs = d .signs; «gain_index» = d .«gain_index» }) j
 
 module _ {d e : Description} (s : SameGiven d e) where
   -- equal samples have equal bare pulses: what was one period before is equal too, and cancels
@@ -112,7 +112,7 @@ module _ {d e : Description} (s : SameGiven d e) where
       flagged : (t : Bool) → d .train ≡ t → bare d j ≡ bare e j
       flagged false t = sym (sample-sum d j false (v .below) t) ∙ same j h ∙ sample-sum e j false (w .below) (sym (s .train) ∙ t)
       flagged true t =
-          let m : period d ≡ period e = ap (λ (l : ℕ). max l 1) (s .lag t) in
+          let m : period d ≡ period e = ap (λ (l : ℕ). max l 1) (s .baseLag t) in
           add-cancel (bare d j) (bare e j) (cond (leb (period d) j) (sample d (j - period d)) (pos 0))
           (sym (sample-train d j (v .below) t) ∙ same j h ∙ sample-train e j (w .below) (sym (s .train) ∙ t)
           ∙ rw (← m) (ap (λ (z : ℤ). bare e j +ℤ cond (leb (period d) j) z (pos 0)) (sym (same (j - period d) (omega arith)))))
@@ -122,8 +122,8 @@ module _ {d e : Description} (s : SameGiven d e) where
   sample-same r j = flagged (d .train) refl
     where
       flagged : (t : Bool) → d .train ≡ t → sample d j ≡ sample e j
-      flagged true t = λ i. sample (record { count = s .count i; train = s .train i; lag = s .lag t i; grid = r .grid i; code = r .code i; signs = r .signs i; gain = r .gain i }) j
+      flagged true t = λ i. sample (record { count = s .count i; train = s .train i; «base_lag» = s .baseLag t i; grid = r .grid i; code = r .code i; signs = r .signs i; «gain_index» = r .gainIndex i }) j
       flagged false t =
           sample-clear d j t
-          ∙ (λ i. sample (record { count = s .count i; train = false; lag = 0; grid = r .grid i; code = r .code i; signs = r .signs i; gain = r .gain i }) j)
+          ∙ (λ i. sample (record { count = s .count i; train = false; «base_lag» = 0; grid = r .grid i; code = r .code i; signs = r .signs i; «gain_index» = r .gainIndex i }) j)
           ∙ sym (sample-clear e j (sym (s .train) ∙ t))

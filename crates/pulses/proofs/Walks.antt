@@ -14,7 +14,7 @@ use Rattle.positions.specs.Positions.{pulses, limit, walk, slots}
 use Rattle.positions.specs.declared.Count.{Count}
 use Rattle.positions.specs.declared.Count.the-variants.{Five, Six}
 use Rattle.positions.proofs.Steps.{walk-done, walk-hit, walk-miss}
-use Rattle.pulses.specs.Pulses.{place}
+use Rattle.pulses.specs.Pulses.{pulsePlace}
 use Rattle.pulses.specs.declared.Description.{Description}
 
 -- ---- the slots ascend: each is at least lo, below 30, and greater than the one before
@@ -131,12 +131,12 @@ grid-most true = omega arith
 grid-most false = omega arith
 
 module _ (d : Description) (h : d .code < limit (d .count)) where
-  pub place-below : (k : ℕ) → k < pulses (d .count) → place d k < 60
-  unfolding place
-  place-below k m =
+  pub pulse-place-below : (k : ℕ) → k < pulses (d .count) → pulsePlace d k < 60
+  unfolding pulsePlace
+  pulse-place-below k m =
       omega (arith, slot-bounds 0 (slots (d .count) (d .code)) k (slots-ascend (d .count) (d .code) h) (omega (arith, slots-length (d .count) (d .code) h)) .1, grid-most (d .grid))
 
-  pub place-order : (i k : ℕ) → i < k → k < pulses (d .count) → place d i < place d k
-  unfolding place
-  place-order i k l m =
+  pub pulse-place-order : (i k : ℕ) → i < k → k < pulses (d .count) → pulsePlace d i < pulsePlace d k
+  unfolding pulsePlace
+  pulse-place-order i k l m =
       omega (arith, slot-order 0 (slots (d .count) (d .code)) i k (slots-ascend (d .count) (d .code) h) l (omega (arith, slots-length (d .count) (d .code) h)))

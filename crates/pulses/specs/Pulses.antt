@@ -15,7 +15,7 @@ use Rattle.pulses.specs.declared.Description.{Description}
 
 -- ---- the vector of a pulse description (mpmlq_fixed_vector)
 
--- A description is the code's struct: `count` of pulses, five or six; `train`, the flag; `lag`, the base lag; `grid`, a bit; `code`, the position code; `signs`, the sign byte; and `gain`, an index. Flag and grid are Bool, the others but the count any natural number.
+-- A description is the code's struct: `count` of pulses, five or six; `train`, the flag; `base_lag`; `grid`, a bit; `code`, the position code; `signs`, the sign byte; and `gain_index`. Flag and grid are Bool, the others but the count any natural number.
 
 -- the doubled gain of an index; 0 for an index above 23, where the Rust has none
 abbrev pub doubledGain : ℕ → ℕ
@@ -23,11 +23,11 @@ doubledGain i = 2 * getD gains i 0
 
 -- the size of its pulses
 abbrev pub size : Description → ℕ
-size d = doubledGain (d .gain)
+size d = doubledGain (d .«gain_index»)
 
 -- the sample at which its k-th pulse stands, from 0: twice the slot, and the grid bit
-unfoldable pub place : Description → ℕ → ℕ
-place d k = 2 * getD (slots (d .count) (d .code)) k 0 + cond (d .grid) 1 0
+unfoldable pub pulsePlace : Description → ℕ → ℕ
+pulsePlace d k = 2 * getD (slots (d .count) (d .code)) k 0 + cond (d .grid) 1 0
 
 -- z, negated where bit b of the sign byte s is set
 abbrev pub signedBy : ℤ → ℕ → ℕ → ℤ
@@ -43,7 +43,7 @@ repeats m p j = leb p j && eqb ((j - p) % m) 0
 
 -- the step of its train: the base lag; a base lag of 0 counts as 1, as in the Rust
 abbrev pub period : Description → ℕ
-period d = max (d .lag) 1
+period d = max (d .«base_lag») 1
 
 -- whether a pulse that stands at p reaches sample j: at p and, with the flag set, one or more whole base lags later
 unfoldable pub reaches : Description → ℕ → ℕ → Bool
@@ -51,7 +51,7 @@ reaches d p j = cond (d .train) (repeats (period d) p j) (eqb p j)
 
 -- what its k-th pulse adds to sample j
 abbrev pub term : Description → ℕ → ℕ → ℤ
-term d j k = cond (reaches d (place d k) j) (pulse d k) (pos 0)
+term d j k = cond (reaches d (pulsePlace d k) j) (pulse d k) (pos 0)
 
 -- the value at sample j: the sum over all its pulses; 0 where the code has no slots
 unfoldable pub sample : Description → ℕ → ℤ
@@ -65,9 +65,9 @@ vector d = tabulate (sample d) subframeSize
 
 -- accepted: the gain index is 0 to 23, no sign bit is set at the count or above and, with the flag set, the base lag is 18 to 57; that flag and grid are 0 or 1 is in their type
 pub record Accepted (d : Description) : Type 0 where
-  pub gain : d .gain ≤ gainIndexMax
+  pub gainIndex : d .«gain_index» ≤ gainIndexMax
   pub signs : d .signs < 2 ^ pulses (d .count)
-  pub lag : d .train ≡ true → (pitchMin ≤ d .lag) × (d .lag < trainLagLimit)
+  pub baseLag : d .train ≡ true → (pitchMin ≤ d .«base_lag») × (d .«base_lag» < trainLagLimit)
 
 -- accepted, with a code below the limit
 pub record WithSlots (d : Description) : Type 0 where
@@ -78,14 +78,20 @@ pub record WithSlots (d : Description) : Type 0 where
 pub record SameGiven (d e : Description) : Type 0 where
   pub count : d .count ≡ e .count
   pub train : d .train ≡ e .train
-  pub lag : d .train ≡ true → d .lag ≡ e .lag
+  pub baseLag : d .train ≡ true → d .«base_lag» ≡ e .«base_lag»
 
--- equal grid, code, signs and gain index
+-- equal grid, code, signs and gain index; equal signs are equal sign bytes, since those of accepted descriptions have no other bits (`same-signs`, below)
 pub record SameRest (d e : Description) : Type 0 where
   pub grid : d .grid ≡ e .grid
   pub code : d .code ≡ e .code
   pub signs : d .signs ≡ e .signs
-  pub gain : d .gain ≡ e .gain
+  pub gainIndex : d .«gain_index» ≡ e .«gain_index»
+
+-- the sign bits of an accepted description of n pulses are bits 0 to n - 1 of its sign byte: two such have equal sign bits exactly when they have equal sign bytes
+abbrev pub SameSigns : Type 0
+SameSigns =
+    (d e : Description) → Accepted d → Accepted e → d .count ≡ e .count
+    → ((b : ℕ) → b < pulses (d .count) → d .signs / 2 ^ b % 2 ≡ e .signs / 2 ^ b % 2) ↔ (d .signs ≡ e .signs)
 
 -- two accepted descriptions with codes below the limit, of equal count, flag and, with the flag set, base lag, have equal values at all sixty samples exactly when grid, code, signs and gain index are equal (`equal-vectors`)
 abbrev pub EqualVectors : Type 0
@@ -97,4 +103,4 @@ EqualVectors =
 abbrev pub AtMostOne : Type 0
 AtMostOne =
     (d e : Description) → WithSlots d → WithSlots e
-    → d .count ≡ e .count → d .train ≡ e .train → d .lag ≡ e .lag → vector d ≡ vector e → d ≡ e
+    → d .count ≡ e .count → d .train ≡ e .train → d .«base_lag» ≡ e .«base_lag» → vector d ≡ vector e → d ≡ e

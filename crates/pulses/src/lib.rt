@@ -13,18 +13,18 @@ use positions::Slots;
 pub struct Description {
     pub count: Count,
     pub train: bool,
-    pub lag: u32,
+    pub base_lag: u32,
     pub grid: bool,
     pub code: u32,
     pub signs: u8,
-    pub gain: u8,
+    pub gain_index: u8,
 }
 
 // The size of the pulses that a gain index stands for.
-pub fn doubled_gain(gain: u8) -> i32
-    ensures { λ r. ⌜ r ≡ pos (doubledGain gain) ⌝ }
+pub fn doubled_gain(index: u8) -> i32
+    ensures { λ r. ⌜ r ≡ pos (doubledGain index) ⌝ }
 {
-    2 * (tables::fixed_codebook_gain(gain) as i32)
+    2 * (tables::fixed_codebook_gain(index) as i32)
 }
 
 // A pulse of that size, by its sign bit.
@@ -41,7 +41,7 @@ fn pulse_step(train: bool, lag: u32) -> usize
     ensures { λ r. ⌜ r ≡ cond train (max lag 1) 60 ⌝ }
 {
     if !train {
-        return 60;
+        return tables::SUBFRAME_SIZE;
     }
     if lag == 0 { 1 } else { lag as usize }
 }
@@ -55,7 +55,7 @@ fn add_pulse(v: [i32; 60], amp: i32, p: usize, step: usize) -> [i32; 60]
 {
     let mut out = v;
     let mut j = p;
-    while j < 60 {
+    while j < tables::SUBFRAME_SIZE {
         out[j] = out[j] + amp;
         j += step;
     }
@@ -68,8 +68,8 @@ fn add_pulses(d: Description, found: u32) -> [i32; 60]
     requires { ⌜ found ≡ bits (slots (d .count) (d .code)) ⌝ }
     ensures { λ r. ⌜ r ≡ vector d ⌝ }
 {
-    let size = doubled_gain(d.gain);
-    let step = pulse_step(d.train, d.lag);
+    let size = doubled_gain(d.gain_index);
+    let step = pulse_step(d.train, d.base_lag);
     let grid = if d.grid { 1usize } else { 0usize };
     let mut v = [0i32; 60];
     let mut rest = found;

@@ -13,7 +13,7 @@ pub struct Block {
     pub base_lag: i32,
     pub lag: i32,
     pub taps: [i16; 5],
-    pub gain: u8,
+    pub gain_index: u8,
     pub fixed: [i32; 60],
 }
 
@@ -30,8 +30,8 @@ pub fn candidate_lsps(record: &[u8]) -> [i16; 10]
 {
     let mut out = [0i16; 10];
     let mut k: usize = 0;
-    while k < 10 {
-        out[k] = word_at(record, 1 + 2 * k);
+    while k < tables::LPC_ORDER {
+        out[k] = word_at(record, tables::LSPS_PLACE + 2 * k);
         k += 1;
     }
     out
@@ -50,9 +50,9 @@ fn own_lag(record: &[u8], s: Subframe) -> i32
     let base = base_lag(record, s);
     let code = match s {
         Subframe::Zero => tables::STEP_CODE_ZERO,
-        Subframe::One => layout::byte_at(record, 22),
+        Subframe::One => layout::byte_at(record, tables::STEP_1_PLACE),
         Subframe::Two => tables::STEP_CODE_ZERO,
-        Subframe::Three => layout::byte_at(record, 24),
+        Subframe::Three => layout::byte_at(record, tables::STEP_3_PLACE),
     };
     base as i32 + (code as i32 - tables::STEP_CODE_ZERO as i32)
 }
@@ -63,7 +63,7 @@ fn taps_at(record: &[u8], at: usize) -> [i16; 5]
 {
     let mut out = [0i16; 5];
     let mut k: usize = 0;
-    while k < 5 {
+    while k < tables::ACB_TAPS {
         out[k] = word_at(record, at + 2 * k);
         k += 1;
     }
@@ -76,7 +76,7 @@ fn values_at(record: &[u8], at: usize) -> [i32; 60]
 {
     let mut out = [0i32; 60];
     let mut k: usize = 0;
-    while k < 60 {
+    while k < tables::SUBFRAME_SIZE {
         out[k] = word_at(record, at + 2 * k) as i32;
         k += 1;
     }
@@ -109,20 +109,20 @@ fn pulse_description(record: &[u8], s: Subframe) -> Description
     ensures { λ r. ⌜ r ≡ description (now («record» .entry)) s ⌝ }
 {
     let at = layout::block_place(Rate::High, s);
-    let flags = layout::byte_at(record, at + 11);
+    let flags = layout::byte_at(record, at + tables::FLAGS_PLACE);
     let n = pulse_count(s);
-    let lag = base_lag(record, s);
-    let code = code_at(record, at + 13);
-    let signs = layout::byte_at(record, at + 12);
-    let gain = layout::byte_at(record, at + 10);
+    let base = base_lag(record, s);
+    let code = code_at(record, at + tables::CODE_PLACE);
+    let signs = layout::byte_at(record, at + tables::SIGNS_PLACE);
+    let gain_index = layout::byte_at(record, at + tables::GAIN_INDEX_PLACE);
     Description {
         count: n,
         train: flags / 2 % 2 == 1,
-        lag: lag as u32,
+        base_lag: base as u32,
         grid: flags % 2 == 1,
         code: code,
         signs: signs,
-        gain: gain,
+        gain_index: gain_index,
     }
 }
 
@@ -131,7 +131,10 @@ fn fixed_vector(record: &[u8], rate: Rate, s: Subframe) -> [i32; 60]
 {
     match rate {
         Rate::High => pulses::mpmlq_fixed_vector(pulse_description(record, s)),
-        Rate::Low => values_at(record, layout::block_place(Rate::Low, s) + 11),
+        Rate::Low => values_at(
+            record,
+            layout::block_place(Rate::Low, s) + tables::VALUES_PLACE,
+        ),
     }
 }
 
@@ -142,13 +145,13 @@ pub fn read_block(record: &[u8], rate: Rate, s: Subframe) -> Block
     let base = base_lag(record, s);
     let lag = own_lag(record, s);
     let taps = taps_at(record, at);
-    let gain = layout::byte_at(record, at + 10);
+    let gain_index = layout::byte_at(record, at + tables::GAIN_INDEX_PLACE);
     let fixed = fixed_vector(record, rate, s);
     Block {
         base_lag: base as i32,
         lag: lag,
         taps: taps,
-        gain: gain,
+        gain_index: gain_index,
         fixed: fixed,
     }
 }

@@ -6,6 +6,7 @@ use Prim.Native.Nat.{ℕ, zero, suc, _^_, _≤_, _<_}
 use native.Mathlib.Omega.{arith}
 use borrow.Author.Tests.{ltb-false, leb-false}
 use lib.Dec.{T, ltb, leb}
+use Rattle.tables.specs.Constants.{lagAPlace, lagBPlace, step1Place, step3Place, lagCodeMax, stepCodeMax, gainIndexMax, flagsMax, trainLagLimit}
 use Rattle.excitation.specs.declared.Rate.{Rate}
 use Rattle.excitation.specs.declared.Rate.the-variants as rates
 use Rattle.positions.specs.Positions.{pulses}
@@ -23,10 +24,10 @@ use Rattle.refusals.specs.Refusals.{foundHigh, foundReceived, foundOf, f
 use Rattle.integers.specs.Truth.{clash, neither, cond-passed}
 
 pub record Codes (r : List ℕ) : Type 0 where
-  pub lag-a : byte r 21 ≤ 127
-  pub lag-b : byte r 23 ≤ 127
-  pub step-a : byte r 22 ≤ 3
-  pub step-b : byte r 24 ≤ 3
+  pub lag-a : byte r lagAPlace ≤ lagCodeMax
+  pub lag-b : byte r lagBPlace ≤ lagCodeMax
+  pub step-a : byte r step1Place ≤ stepCodeMax
+  pub step-b : byte r step3Place ≤ stepCodeMax
 
 abbrev isReceived : Found → Bool
 isReceived Erased = false
@@ -40,13 +41,13 @@ module _ (r : List ℕ) where
   codes-received rate rest h =
       let l = cond-passed isReceived (wrongLagCode r) _ _ refl h in
       let s = cond-passed isReceived (wrongStepCode r) _ _ refl (l .1) in
-      let lags = neither (ltb 127 (byte r 21)) (ltb 127 (byte r 23)) (l .0) in
-      let steps = neither (ltb 3 (byte r 22)) (ltb 3 (byte r 24)) (s .0) in
+      let lags = neither (ltb lagCodeMax (byte r lagAPlace)) (ltb lagCodeMax (byte r lagBPlace)) (l .0) in
+      let steps = neither (ltb stepCodeMax (byte r step1Place)) (ltb stepCodeMax (byte r step3Place)) (s .0) in
       record {
-        lag-a = ltb-false 127 (byte r 21) (lags .0);
-        lag-b = ltb-false 127 (byte r 23) (lags .1);
-        step-a = ltb-false 3 (byte r 22) (steps .0);
-        step-b = ltb-false 3 (byte r 24) (steps .1);
+        lag-a = ltb-false lagCodeMax (byte r lagAPlace) (lags .0);
+        lag-b = ltb-false lagCodeMax (byte r lagBPlace) (lags .1);
+        step-a = ltb-false stepCodeMax (byte r step1Place) (steps .0);
+        step-b = ltb-false stepCodeMax (byte r step3Place) (steps .1);
       }
 
   codes-of : (kind : ℕ) → isReceived (foundOf kind r) ≡ true → Codes r
@@ -134,18 +135,18 @@ module _ (r : List ℕ) where
       let l = cond-passed isHigh (wrongLength r) _ _ refl (k .1) in
       passed-of (byte r 0) (l .1)
 
-  -- a train's base lag is below 58
-  train-lag : (k : Subframe) → Passed → train r k ≡ true → baseLag r k < 58
+  -- a train's base lag is below its limit
+  train-lag : (k : Subframe) → Passed → train r k ≡ true → baseLag r k < trainLagLimit
   train-lag k p t =
       let flags = none-in (wrongFlagsIn r) (p .flags) k in
-      let long = neither (ltb 3 (flagsOf r k)) (train r k && leb 58 (baseLag r k)) flags .1 in
-      leb-false 58 (baseLag r k) (sym (ap (λ (b : Bool). b && leb 58 (baseLag r k)) t) ∙ long)
+      let long = neither (ltb flagsMax (flagsOf r k)) (train r k && leb trainLagLimit (baseLag r k)) flags .1 in
+      leb-false trainLagLimit (baseLag r k) (sym (ap (λ (b : Bool). b && leb trainLagLimit (baseLag r k)) t) ∙ long)
 
   pub accepted-description : found r ≡ High → (k : Subframe) → Accepted (description r k)
   accepted-description e k =
       let p = passed e in
       record {
-        gain = ltb-false 23 (gainIndex rates.High r k) (none-in (λ s. ltb 23 (gainIndex rates.High r s)) (p .gains) k);
+        gainIndex = ltb-false gainIndexMax (gainIndex rates.High r k) (none-in (λ s. ltb gainIndexMax (gainIndex rates.High r s)) (p .gains) k);
         signs = leb-false (2 ^ pulses (count k)) (signsOf r k) (none-in (wrongSignsIn r) (p .signs) k);
-        lag = λ t. (omega arith, train-lag k p t);
+        baseLag = λ t. (omega arith, train-lag k p t);
       }

@@ -1,10 +1,12 @@
 -- Which of the numbers 3 to 10 a record gets (document 01, "The ten numbers, tested in this order"). r is the record's bytes.
+use mathlib.Core.Path.{_≡_}
 use mathlib.Core.Bool.{Bool, cond, not, _&&_, _||_}
 use mathlib.Core.List.{List}
 use Prim.Native.Nat.{ℕ, zero, suc, _^_}
 use lib.Dec.{ltb, leb, eqb}
 use lib.ListN.{length}
-use Rattle.tables.specs.Constants.{recordHighBytes, recordLowBytes, lagCodeMax, stepCodeMax, gainIndexMax, flagsMax, trainLagLimit}
+use Rattle.tables.specs.Constants.{kindMax, recordErasedBytes, recordHighBytes, recordLowBytes, lagAPlace, lagBPlace, step1Place, step3Place}
+use Rattle.tables.specs.Constants.{lagCodeMax, stepCodeMax, gainIndexMax, flagsMax, trainLagLimit}
 use Rattle.positions.specs.Positions.{pulses}
 use Rattle.excitation.specs.declared.Subframe.{Subframe}
 use Rattle.excitation.specs.declared.Subframe.the-variants.{Zero, One, Two, Three}
@@ -12,6 +14,7 @@ use Rattle.excitation.specs.declared.Rate.{Rate}
 use Rattle.excitation.specs.declared.Rate.the-variants as rates
 use Rattle.reader.specs.Fields.{byte}
 use Rattle.record.specs.Record.{baseLag, gainIndex, flags, train, signs, count}
+use Rattle.numbers.specs.Numbers.{number}
 use Rattle.numbers.specs.declared.Refusal.the-variants.{NoByte, Kind, Length, LagCode, StepCode, GainIndex, Flags, Signs}
 use Rattle.refusals.specs.declared.Found.{Found}
 use Rattle.refusals.specs.declared.Found.the-variants.{Erased, High, Low, Refused}
@@ -24,24 +27,24 @@ noByte r = eqb (length r) 0
 
 -- 4: the kind, byte 0, is above 2
 abbrev pub wrongKind : List ℕ → Bool
-wrongKind r = ltb 2 (byte r 0)
+wrongKind r = ltb kindMax (byte r 0)
 
 -- 5: the length is not the kind's
-abbrev pub bytesOf : ℕ → ℕ
-bytesOf zero = 1
-bytesOf (suc zero) = recordHighBytes
-bytesOf (suc (suc n)) = recordLowBytes
+abbrev pub recordBytes : ℕ → ℕ
+recordBytes zero = recordErasedBytes
+recordBytes (suc zero) = recordHighBytes
+recordBytes (suc (suc n)) = recordLowBytes
 
 abbrev pub wrongLength : List ℕ → Bool
-wrongLength r = not (eqb (length r) (bytesOf (byte r 0)))
+wrongLength r = not (eqb (length r) (recordBytes (byte r 0)))
 
 -- 6: a base lag code is above 127
 abbrev pub wrongLagCode : List ℕ → Bool
-wrongLagCode r = ltb lagCodeMax (byte r 21) || ltb lagCodeMax (byte r 23)
+wrongLagCode r = ltb lagCodeMax (byte r lagAPlace) || ltb lagCodeMax (byte r lagBPlace)
 
 -- 7: a step code is above 3
 abbrev pub wrongStepCode : List ℕ → Bool
-wrongStepCode r = ltb stepCodeMax (byte r 22) || ltb stepCodeMax (byte r 24)
+wrongStepCode r = ltb stepCodeMax (byte r step1Place) || ltb stepCodeMax (byte r step3Place)
 
 -- whether a test holds in a subframe
 abbrev pub anySubframe : (Subframe → Bool) → Bool
@@ -85,3 +88,23 @@ foundOf (suc (suc n)) r = foundReceived rates.Low r Low
 -- 3 to 5 before all else
 unfoldable pub found : List ℕ → Found
 found r = cond (noByte r) (Refused NoByte) (cond (wrongKind r) (Refused Kind) (cond (wrongLength r) (Refused Length) (foundOf (byte r 0) r)))
+
+-- ---- what each case says, in document 01's numbers
+
+-- the number: that of the refusal, 0 where the record is accepted
+abbrev pub numberFound : Found → ℕ
+numberFound Erased = 0
+numberFound High = 0
+numberFound Low = 0
+numberFound (Refused n) = number n
+
+-- the kind: byte 0 of a record that is accepted; a refused one may have any
+abbrev pub IsKind : Found → ℕ → Type 0
+IsKind Erased kind = kind ≡ 0
+IsKind High kind = kind ≡ 1
+IsKind Low kind = kind ≡ 2
+IsKind (Refused n) kind = Unit
+
+-- a record's number: the first of 3 to 10 that applies, or 0
+abbrev pub recordNumber : List ℕ → ℕ
+recordNumber r = numberFound (found r)

@@ -5,7 +5,7 @@ ghost use lib.Dec.{ltb};
 ghost use Rattle.tables.specs.Constants.{gainIndexMax};
 ghost use Rattle.reader.specs.Fields.{byte};
 ghost use Rattle.record.specs.Record.{gainIndex};
-ghost use Rattle.refusals.specs.Refusals.{bytesOf, wrongLagCode, wrongStepCode, wrongGainIndex, wrongFlagsIn, wrongFlags, wrongSignsIn, wrongSigns, foundHigh, foundReceived, found};
+ghost use Rattle.refusals.specs.Refusals.{recordBytes, wrongLagCode, wrongStepCode, wrongGainIndex, wrongFlagsIn, wrongFlags, wrongSignsIn, wrongSigns, foundHigh, foundReceived, found, numberFound, IsKind, recordNumber};
 use excitation::Rate;
 use excitation::Subframe;
 use numbers::Refusal;
@@ -19,10 +19,10 @@ pub enum Found {
 
 // The length of a record of a kind.
 fn record_bytes(kind: u8) -> usize
-    ensures { λ r. ⌜ r ≡ bytesOf kind ⌝ }
+    ensures { λ r. ⌜ r ≡ recordBytes kind ⌝ }
 {
     match kind {
-        0 => 1,
+        0 => tables::RECORD_ERASED_BYTES,
         1 => tables::RECORD_HIGH_BYTES,
         _ => tables::RECORD_LOW_BYTES,
     }
@@ -38,13 +38,23 @@ fn either_above(record: &[u8], i: usize, j: usize, most: u8) -> bool
 fn lag_code_above(record: &[u8]) -> bool
     ensures { λ r. ⌜ r ≡ wrongLagCode (now («record» .entry)) ⌝ }
 {
-    either_above(record, 21, 23, tables::LAG_CODE_MAX)
+    either_above(
+        record,
+        tables::LAG_A_PLACE,
+        tables::LAG_B_PLACE,
+        tables::LAG_CODE_MAX,
+    )
 }
 
 fn step_code_above(record: &[u8]) -> bool
     ensures { λ r. ⌜ r ≡ wrongStepCode (now («record» .entry)) ⌝ }
 {
-    either_above(record, 22, 24, tables::STEP_CODE_MAX)
+    either_above(
+        record,
+        tables::STEP_1_PLACE,
+        tables::STEP_3_PLACE,
+        tables::STEP_CODE_MAX,
+    )
 }
 
 // A test holds in one of the four subframes.
@@ -57,7 +67,11 @@ fn in_any(zero: bool, one: bool, two: bool, three: bool) -> bool
 fn gain_above(record: &[u8], rate: Rate, s: Subframe) -> bool
     ensures { λ r. ⌜ r ≡ ltb gainIndexMax (gainIndex rate (now («record» .entry)) s) ⌝ }
 {
-    layout::byte_at(record, layout::block_place(rate, s) + 10) > tables::GAIN_INDEX_MAX
+    layout::byte_at(
+        record,
+        layout::block_place(rate, s) + tables::GAIN_INDEX_PLACE,
+    )
+        > tables::GAIN_INDEX_MAX
 }
 
 fn any_gain_above(record: &[u8], rate: Rate) -> bool
@@ -74,7 +88,10 @@ fn any_gain_above(record: &[u8], rate: Rate) -> bool
 fn flags_wrong(record: &[u8], s: Subframe) -> bool
     ensures { λ r. ⌜ r ≡ wrongFlagsIn (now («record» .entry)) s ⌝ }
 {
-    let flags = layout::byte_at(record, layout::block_place(Rate::High, s) + 11);
+    let flags = layout::byte_at(
+        record,
+        layout::block_place(Rate::High, s) + tables::FLAGS_PLACE,
+    );
     if flags > tables::FLAGS_MAX {
         return true;
     }
@@ -96,12 +113,15 @@ fn any_flags_wrong(record: &[u8]) -> bool
 fn signs_wrong(record: &[u8], s: Subframe) -> bool
     ensures { λ r. ⌜ r ≡ wrongSignsIn (now («record» .entry)) s ⌝ }
 {
-    let signs = layout::byte_at(record, layout::block_place(Rate::High, s) + 12);
+    let signs = layout::byte_at(
+        record,
+        layout::block_place(Rate::High, s) + tables::SIGNS_PLACE,
+    );
     match s {
-        Subframe::Zero => signs >= 64,
-        Subframe::One => signs >= 32,
-        Subframe::Two => signs >= 64,
-        Subframe::Three => signs >= 32,
+        Subframe::Zero => signs >= tables::MPMLQ_SIGNS_LIMIT_SIX,
+        Subframe::One => signs >= tables::MPMLQ_SIGNS_LIMIT_FIVE,
+        Subframe::Two => signs >= tables::MPMLQ_SIGNS_LIMIT_SIX,
+        Subframe::Three => signs >= tables::MPMLQ_SIGNS_LIMIT_FIVE,
     }
 }
 
@@ -147,13 +167,15 @@ fn received_found(record: &[u8], rate: Rate, rest: Found) -> Found
 
 // The first number that applies, or the record's kind.
 pub fn examine(record: &[u8]) -> Found
-    ensures { λ r. ⌜ r ≡ found (now («record» .entry)) ⌝ }
+    ensures answer { λ r. ⌜ r ≡ found (now («record» .entry)) ⌝ }
+    ensures number { λ r. ⌜ numberFound r ≡ recordNumber (now («record» .entry)) ⌝ }
+    ensures kind { λ r. ⌜ IsKind r (byte (now («record» .entry)) 0) ⌝ }
 {
     if record.len() == 0 {
         return Found::Refused(Refusal::NoByte);
     }
     let kind = layout::byte_at(record, 0);
-    if kind > 2 {
+    if kind > tables::KIND_MAX {
         return Found::Refused(Refusal::Kind);
     }
     if record.len() != record_bytes(kind) {

@@ -70,7 +70,7 @@ fn one_pass(p: [i16; 10], minimum: i16) -> Pass
         moved: false,
     };
     let mut j: usize = 0;
-    while j < 9 {
+    while j < tables::LSP_GAPS {
         let t = pair(s, j, minimum);
         s = t;
         j += 1;
@@ -83,7 +83,7 @@ fn any_short(p: [i16; 10], minimum: i16) -> bool
 {
     let mut found = false;
     let mut j: usize = 0;
-    while j < 9 {
+    while j < tables::LSP_GAPS {
         found = found || is_short(p[j], p[j + 1], minimum);
         j += 1;
     }

@@ -1,7 +1,7 @@
 -- What holds of a state in bounds, and how a state is shown to be.
 use mathlib.Core.Path.{_≡_, refl, sym, _∙_}
 use mathlib.Core.Bool.{Bool, true, _&&_}
-use mathlib.Core.List.{List}
+use mathlib.Core.List.{List, [], _∷_}
 use mathlib.Core.Logic.{⊎-elim}
 use Prim.Native.Nat.{ℕ, _≤_, _<_}
 use native.Mathlib.Omega.{arith}
@@ -14,10 +14,10 @@ use Rattle.integers.specs.Base.{entry, tabulate}
 use Rattle.integers.specs.Natural.{le-or-lt}
 use Rattle.integers.specs.Linear.{line, line-fits, fits-between}
 use Rattle.integers.specs.Fill.{tabulate-ext, entries-all}
-use Rattle.tables.specs.Constants.{pitchMin, agcMax, lastLagMin, lastLagMax, lastBaseLagMax, unvoicedGainMax}
+use Rattle.tables.specs.Constants.{excHist, lpcOrder}
 use Rattle.basicop.specs.Operators.{word16}
 use Rattle.state.specs.declared.State.{State}
-use Rattle.state.specs.State.{freshState, between, allTo, areWords, numbersInBounds, inBounds}
+use Rattle.state.specs.State.{freshState, between, allTo, areWords, Bounded, isInBounds, areInBounds, boundedNumbers, inBounds}
 use Rattle.widths.specs.Widths.{frameSignal, narrowed}
 use Rattle.widths.proofs.Narrowed.{word-narrowed, past-narrowed}
 use Rattle.integers.specs.Truth.{both}
@@ -47,69 +47,50 @@ words-narrowed xs n h =
 
 -- ---- the fields
 
--- the tests of inBounds
+-- what holds of numbers in bounds
+abbrev pub Lies : Bounded → Type 0
+Lies b = (b .least ≤ℤ b .value) × (b .value ≤ℤ b .most)
+
+abbrev pub AllLie : List Bounded → Type 0
+AllLie [] = Unit
+AllLie (b ∷ bs) = Lies b × AllLie bs
+
+bounds-in : (bs : List Bounded) → areInBounds bs ≡ true → AllLie bs
+bounds-in [] h = tt
+bounds-in (b ∷ bs) h =
+    let p = both (isInBounds b) (areInBounds bs) h in
+    (between-in (b .least) (b .most) (b .value) (p .0), bounds-in bs (p .1))
+
+bounds-out : (bs : List Bounded) → AllLie bs → areInBounds bs ≡ true
+bounds-out [] h = refl
+bounds-out (b ∷ bs) h = λ i. between-out (b .least) (b .most) (b .value) (h .0 .0) (h .0 .1) i && bounds-out bs (h .1) i
+
+-- the other tests of inBounds
 abbrev pub isHistory : State → Bool
-isHistory s = areWords (s .«exc_hist») 146
+isHistory s = areWords (s .«exc_hist») excHist
 
 abbrev pub isMemory : State → Bool
-isMemory s = areWords (s .«syn_mem») 10
+isMemory s = areWords (s .«syn_mem») lpcOrder
 
-abbrev pub isGain : State → Bool
-isGain s = between (pos 0) (pos agcMax) (s .pf .«agc_gain_q12»)
+abbrev pub areNumbers : State → Bool
+areNumbers s = areInBounds (boundedNumbers s)
 
-abbrev pub isLag : State → Bool
-isLag s = between (pos lastLagMin) (pos lastLagMax) (s .«last_lag»)
-
-abbrev pub isLag2 : State → Bool
-isLag2 s = between (pos pitchMin) (pos lastBaseLagMax) (s .«last_lag2»)
-
-abbrev pub isTaps : State → Bool
-isTaps s = between (pos 0) (pos 32767) (s .«last_taps_sum_q15»)
-
-abbrev pub isUnvoiced : State → Bool
-isUnvoiced s = between (pos 0) (pos unvoicedGainMax) (s .«last_gain_unvoiced»)
-
-pub record Numbers (s : State) : Type 0 where
-  pub gain : (pos 0 ≤ℤ s .pf .«agc_gain_q12») × (s .pf .«agc_gain_q12» ≤ℤ pos agcMax)
-  pub lag : (pos lastLagMin ≤ℤ s .«last_lag») × (s .«last_lag» ≤ℤ pos lastLagMax)
-  pub lag2 : (pos pitchMin ≤ℤ s .«last_lag2») × (s .«last_lag2» ≤ℤ pos lastBaseLagMax)
-  pub taps : (pos 0 ≤ℤ s .«last_taps_sum_q15») × (s .«last_taps_sum_q15» ≤ℤ pos 32767)
-  pub unvoiced : (pos 0 ≤ℤ s .«last_gain_unvoiced») × (s .«last_gain_unvoiced» ≤ℤ pos unvoicedGainMax)
-
--- of a state in bounds
+-- of a state in bounds: the gain, the lags of subframes 3 and 2, the tap sum and the unvoiced gain, in this order
 
 pub words-of : (s : State) → inBounds s ≡ true → (isHistory s ≡ true) × (isMemory s ≡ true)
 unfolding inBounds
-words-of s h =
-    let a = both (isHistory s) (isMemory s && numbersInBounds s) h in (a .0, both (isMemory s) (numbersInBounds s) (a .1) .0)
+words-of s h = let a = both (isHistory s) (isMemory s && areNumbers s) h in (a .0, both (isMemory s) (areNumbers s) (a .1) .0)
 
-pub numbers-of : (s : State) → inBounds s ≡ true → Numbers s
+pub numbers-of : (s : State) → inBounds s ≡ true → AllLie (boundedNumbers s)
 unfolding inBounds
 numbers-of s h =
-    let a = both (isHistory s) (isMemory s && numbersInBounds s) h in
-    let b = both (isMemory s) (numbersInBounds s) (a .1) in
-    let c = both (isGain s) (isLag s && (isLag2 s && (isTaps s && isUnvoiced s))) (b .1) in
-    let d = both (isLag s) (isLag2 s && (isTaps s && isUnvoiced s)) (c .1) in
-    let e = both (isLag2 s) (isTaps s && isUnvoiced s) (d .1) in
-    let f = both (isTaps s) (isUnvoiced s) (e .1) in
-    record {
-      gain = between-in (pos 0) (pos agcMax) (s .pf .«agc_gain_q12») (c .0);
-      lag = between-in (pos lastLagMin) (pos lastLagMax) (s .«last_lag») (d .0);
-      lag2 = between-in (pos pitchMin) (pos lastBaseLagMax) (s .«last_lag2») (e .0);
-      taps = between-in (pos 0) (pos 32767) (s .«last_taps_sum_q15») (f .0);
-      unvoiced = between-in (pos 0) (pos unvoicedGainMax) (s .«last_gain_unvoiced») (f .1);
-    }
+    let a = both (isHistory s) (isMemory s && areNumbers s) h in
+    bounds-in (boundedNumbers s) (both (isMemory s) (areNumbers s) (a .1) .1)
 
 -- and back
-pub bounds-from : (s : State) → isHistory s ≡ true → isMemory s ≡ true → Numbers s → inBounds s ≡ true
+pub bounds-from : (s : State) → isHistory s ≡ true → isMemory s ≡ true → AllLie (boundedNumbers s) → inBounds s ≡ true
 unfolding inBounds
-bounds-from s x m n =
-    let gain = between-out (pos 0) (pos agcMax) (s .pf .«agc_gain_q12») (n .gain .0) (n .gain .1) in
-    let lag = between-out (pos lastLagMin) (pos lastLagMax) (s .«last_lag») (n .lag .0) (n .lag .1) in
-    let lag2 = between-out (pos pitchMin) (pos lastBaseLagMax) (s .«last_lag2») (n .lag2 .0) (n .lag2 .1) in
-    let taps = between-out (pos 0) (pos 32767) (s .«last_taps_sum_q15») (n .taps .0) (n .taps .1) in
-    let unvoiced = between-out (pos 0) (pos unvoicedGainMax) (s .«last_gain_unvoiced») (n .unvoiced .0) (n .unvoiced .1) in
-    λ i. x i && (m i && (gain i && (lag i && (lag2 i && (taps i && unvoiced i)))))
+bounds-from s x m n = λ i. x i && (m i && bounds-out (boundedNumbers s) n i)
 
 -- ---- what the frame works on, of a state in bounds
 

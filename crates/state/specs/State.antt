@@ -1,12 +1,12 @@
 -- The state of the decoder (document 01, number 2 and "Frame"; the Rust's QSynthesis and QSynthesis::new). It is the code's struct, with the Rust's fields and widths; the Rust's clamp_syn_mem is always set.
 use mathlib.Core.Bool.{Bool, true, not, _&&_}
-use mathlib.Core.List.{List}
+use mathlib.Core.List.{List, [], _∷_}
 use Prim.Native.Nat.{ℕ, zero, suc}
 use lib.IntN.{ℤ, pos, negsuc}
 use lib.ListN.{replicate}
 use lib.Signed.{ltZ}
 use Rattle.integers.specs.Base.{entry}
-use Rattle.tables.specs.Constants.{lpcOrder, excHist, classifierHistory, pitchMin, freshLag, agcOne, agcMax, lastLagMin, lastLagMax, lastBaseLagMax, unvoicedGainMax}
+use Rattle.tables.specs.Constants.{lpcOrder, excHist, classifierHistory, pitchMin, freshLag, agcOne, agcMax, lastLagMin, lastLagMax, lastBaseLagMax, tapSumMax, unvoicedGainMax}
 use Rattle.tables.specs.Tables.{meanLsps}
 use Rattle.postfilter.specs.declared.Postfilter.{Postfilter}
 use Rattle.state.specs.declared.State.{State}
@@ -53,14 +53,36 @@ allTo t (suc n) = allTo t n && t n
 abbrev pub areWords : List ℤ → ℕ → Bool
 areWords xs n = allTo (λ i. between (negsuc 32767) (pos 32767) (entry xs i)) n
 
--- the fields that are numbers
-abbrev pub numbersInBounds : State → Bool
-numbersInBounds s =
-    between (pos 0) (pos agcMax) (s .pf .«agc_gain_q12»)
-    && (between (pos lastLagMin) (pos lastLagMax) (s .«last_lag»)
-    && (between (pos pitchMin) (pos lastBaseLagMax) (s .«last_lag2»)
-    && (between (pos 0) (pos 32767) (s .«last_taps_sum_q15»)
-    && between (pos 0) (pos unvoicedGainMax) (s .«last_gain_unvoiced»))))
+-- a number, and the least and the most that it may be
+pub record Bounded : Type 0 where
+  pub value : ℤ
+  pub least : ℤ
+  pub most : ℤ
+
+abbrev pub isInBounds : Bounded → Bool
+isInBounds b = between (b .least) (b .most) (b .value)
+
+abbrev pub areInBounds : List Bounded → Bool
+areInBounds [] = true
+areInBounds (b ∷ bs) = isInBounds b && areInBounds bs
+
+-- the stored lag of subframe 3, and what else is stored of the last received frame: the lag of subframe 2, the tap sum and the unvoiced gain
+abbrev pub lastLagBounded : ℤ → Bounded
+lastLagBounded lag = record { value = lag; least = pos lastLagMin; most = pos lastLagMax }
+
+abbrev pub lastBounded : ℤ → ℤ → ℤ → List Bounded
+lastBounded lag2 tapSum unvoiced =
+    record { value = lag2; least = pos pitchMin; most = pos lastBaseLagMax }
+    ∷ record { value = tapSum; least = pos 0; most = pos tapSumMax }
+    ∷ record { value = unvoiced; least = pos 0; most = pos unvoicedGainMax }
+    ∷ []
+
+-- the fields that are numbers, the gain first
+abbrev pub boundedNumbers : State → List Bounded
+boundedNumbers s =
+    record { value = s .pf .«agc_gain_q12»; least = pos 0; most = pos agcMax }
+    ∷ lastLagBounded (s .«last_lag»)
+    ∷ lastBounded (s .«last_lag2») (s .«last_taps_sum_q15») (s .«last_gain_unvoiced»)
 
 unfoldable pub inBounds : State → Bool
-inBounds s = areWords (s .«exc_hist») excHist && (areWords (s .«syn_mem») lpcOrder && numbersInBounds s)
+inBounds s = areWords (s .«exc_hist») excHist && (areWords (s .«syn_mem») lpcOrder && areInBounds (boundedNumbers s))

@@ -1,7 +1,7 @@
 // The state of the decoder: the Rust's QSynthesis with its widths (qdec.rs), a fresh one, and the bounds of number 2.
 ghost use mathlib.Core.Path.{_≡_};
 ghost use lib.ListN.{length};
-ghost use Rattle.state.specs.State.{freshPostfilter, freshState, between, areWords, numbersInBounds, inBounds};
+ghost use Rattle.state.specs.State.{freshPostfilter, freshState, between, areWords, areInBounds, boundedNumbers, inBounds};
 use postfilter::Postfilter;
 
 pub struct State {
@@ -71,13 +71,13 @@ fn are_words(xs: &[i32]) -> bool
 }
 
 fn numbers_in_bounds(state: State) -> bool
-    ensures { λ r. ⌜ r ≡ numbersInBounds state ⌝ }
+    ensures { λ r. ⌜ r ≡ areInBounds (boundedNumbers state) ⌝ }
 {
     let pf = state.pf;
     is_between(0, tables::AGC_GAIN_MAX_Q12, pf.agc_gain_q12)
         && is_between(tables::LAST_LAG_MIN, tables::LAST_LAG_MAX, state.last_lag)
         && is_between(tables::PITCH_MIN, tables::LAST_LAG2_MAX, state.last_lag2)
-        && is_between(0, 32767, state.last_taps_sum_q15)
+        && is_between(0, tables::TAPS_SUM_MAX_Q15, state.last_taps_sum_q15)
         && is_between(0, tables::GAIN_UNVOICED_MAX, state.last_gain_unvoiced)
 }
 

@@ -22,7 +22,7 @@ fn widened(mem: [i16; 10]) -> [i64; 10]
 {
     let mut m = [0i64; 10];
     let mut j: usize = 0;
-    while j < 10 {
+    while j < tables::LPC_ORDER {
         m[j] = mem[j] as i64;
         j += 1;
     }
@@ -45,7 +45,7 @@ fn predicted(a: [i16; 10], mem: [i64; 10]) -> i64
 {
     let mut acc: i64 = 0;
     let mut j: usize = 0;
-    while j < 10 {
+    while j < tables::LPC_ORDER {
         acc = mac(acc, a[j], mem[j]);
         j += 1;
     }
@@ -97,7 +97,7 @@ fn driven_subframe(a: [i16; 10], x: &[i64; 60], mem: [i16; 10]) -> Synthesised
     let mut m = widened(mem);
     let mut out = [0i16; 60];
     let mut n: usize = 0;
-    while n < 60 {
+    while n < tables::SUBFRAME_SIZE {
         let y = sample(a, x[n], m);
         out[n] = y;
         let next = remembered(m, y);
@@ -124,7 +124,7 @@ fn scaled_inputs(x: &[i32; 60]) -> [i64; 60]
 {
     let mut v = [0i64; 60];
     let mut n: usize = 0;
-    while n < 60 {
+    while n < tables::SUBFRAME_SIZE {
         v[n] = scaled_input(x[n]);
         n += 1;
     }
@@ -152,7 +152,7 @@ fn inputs_less(y: &[i16; 60], less: &[i32; 60]) -> [i64; 60]
 {
     let mut v = [0i64; 60];
     let mut n: usize = 0;
-    while n < 60 {
+    while n < tables::SUBFRAME_SIZE {
         v[n] = input_less(y[n], less[n]);
         n += 1;
     }

@@ -1,4 +1,4 @@
--- The constants of document 01, for definitions; src/lib.rt has them for code, in the same order (tests/compare-tables).
+-- The constants of document 01, for definitions; src/lib.rt has them for code, in the same order (tests/compare-tables). Units that code has as shifts stand here alone.
 use Prim.Native.Nat.{ℕ}
 
 -- ---- sizes (document 01, "Constants")
@@ -52,15 +52,9 @@ lspMinimumErased = 512
 abbrev pub lspPredictorErased : ℕ
 lspPredictorErased = 23552
 
--- a quarter, a half and three quarters, in 32768ths
+-- a quarter, in 32768ths
 abbrev pub quarter : ℕ
 quarter = 8192
-
-abbrev pub half : ℕ
-half = 16384
-
-abbrev pub threeQuarters : ℕ
-threeQuarters = 24576
 
 -- coefficients are 8192ths, the polynomials that they are made from 2 ^ 24ths
 abbrev pub lpcOne : ℕ
@@ -173,17 +167,67 @@ lastLagMax = 147
 abbrev pub lastBaseLagMax : ℕ
 lastBaseLagMax = 145
 
+abbrev pub tapSumMax : ℕ
+tapSumMax = 32767
+
 -- the largest gain, doubled
 abbrev pub unvoicedGainMax : ℕ
 unvoicedGainMax = 13246
 
--- ---- the record (document 01, "The record", numbers 5 to 9)
+-- ---- the record (document 01, "The record", numbers 4 to 9)
+
+abbrev pub kindMax : ℕ
+kindMax = 2
+
+abbrev pub recordErasedBytes : ℕ
+recordErasedBytes = 1
 
 abbrev pub recordHighBytes : ℕ
 recordHighBytes = 89
 
 abbrev pub recordLowBytes : ℕ
 recordLowBytes = 549
+
+-- places: candidate LSPs, base lag code A, the step code of subframe 1, base lag code B, the step code of subframe 3, the first block
+abbrev pub lspsPlace : ℕ
+lspsPlace = 1
+
+abbrev pub lagAPlace : ℕ
+lagAPlace = 21
+
+abbrev pub step1Place : ℕ
+step1Place = 22
+
+abbrev pub lagBPlace : ℕ
+lagBPlace = 23
+
+abbrev pub step3Place : ℕ
+step3Place = 24
+
+abbrev pub blocksPlace : ℕ
+blocksPlace = 25
+
+abbrev pub blockHighBytes : ℕ
+blockHighBytes = 16
+
+abbrev pub blockLowBytes : ℕ
+blockLowBytes = 131
+
+-- places in a block after its taps: gain index; High: flags, signs and position code; Low: sixty values
+abbrev pub gainIndexPlace : ℕ
+gainIndexPlace = 10
+
+abbrev pub flagsPlace : ℕ
+flagsPlace = 11
+
+abbrev pub signsPlace : ℕ
+signsPlace = 12
+
+abbrev pub codePlace : ℕ
+codePlace = 13
+
+abbrev pub valuesPlace : ℕ
+valuesPlace = 11
 
 abbrev pub lagCodeMax : ℕ
 lagCodeMax = 127
@@ -205,3 +249,7 @@ flagsMax = 3
 
 abbrev pub lineMax : ℕ
 lineMax = 1098
+
+-- numbers 1 to 11, and 0 for samples
+abbrev pub numbersCounted : ℕ
+numbersCounted = 12

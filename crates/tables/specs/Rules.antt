@@ -36,32 +36,32 @@ cosine-rule k h =
 -- ---- gains: none is 0, no two are equal, none is above 6623
 
 -- the place of the first entry that is x
-unfoldable pub place : List ℕ → ℕ → ℕ
-place [] x = 0
-place (y ∷ ys) x = cond (eqb x y) 0 (suc (place ys x))
+unfoldable pub firstIndex : List ℕ → ℕ → ℕ
+firstIndex [] x = 0
+firstIndex (y ∷ ys) x = cond (eqb x y) 0 (suc (firstIndex ys x))
 
 gainTest : ℕ → ℕ → Bool
-gainTest k x = ltb 0 x && (leb x 6623 && eqb (place gains x) k)
+gainTest k x = ltb 0 x && (leb x 6623 && eqb (firstIndex gains x) k)
 
 pub record Gain (k x : ℕ) : Type 0 where
   pub positive : 0 < x
   pub at-most : x ≤ 6623
-  pub placed : place gains x ≡ k
+  pub indexed : firstIndex gains x ≡ k
 
 pub gain-rule : (k : ℕ) → k < 24 → Gain k (getD gains k 0)
-unfolding gains every gainTest place
+unfolding gains every gainTest firstIndex
 gain-rule k h =
     let x = getD gains k 0 in
     let t = every-at gainTest gains tt k h 0 in
-    let u = and-right (ltb 0 x) (leb x 6623 && eqb (place gains x) k) t in
+    let u = and-right (ltb 0 x) (leb x 6623 && eqb (firstIndex gains x) k) t in
     record {
-      positive = ltb→lt 0 x (and-left (ltb 0 x) (leb x 6623 && eqb (place gains x) k) t);
-      at-most = leb→le x 6623 (and-left (leb x 6623) (eqb (place gains x) k) u);
-      placed = eqb→eq (place gains x) k (and-right (leb x 6623) (eqb (place gains x) k) u);
+      positive = ltb→lt 0 x (and-left (ltb 0 x) (leb x 6623 && eqb (firstIndex gains x) k) t);
+      at-most = leb→le x 6623 (and-left (leb x 6623) (eqb (firstIndex gains x) k) u);
+      indexed = eqb→eq (firstIndex gains x) k (and-right (leb x 6623) (eqb (firstIndex gains x) k) u);
     }
 
 pub gain-distinct : (i j : ℕ) → i < 24 → j < 24 → getD gains i 0 ≡ getD gains j 0 → i ≡ j
-gain-distinct i j hi hj e = sym (gain-rule i hi .placed) ∙ ap (place gains) e ∙ gain-rule j hj .placed
+gain-distinct i j hi hj e = sym (gain-rule i hi .indexed) ∙ ap (firstIndex gains) e ∙ gain-rule j hj .indexed
 
 -- no gain is above 6623, at any index
 pub gain-most : (k : ℕ) → getD gains k 0 ≤ 6623

@@ -1,15 +1,14 @@
 -- A state in bounds stays in bounds, whatever the record.
 use mathlib.Core.Path.{_≡_, refl}
 use mathlib.Core.Bool.{Bool, true, false, not, cond}
-use mathlib.Core.List.{List}
+use mathlib.Core.List.{List, _∷_}
 use Prim.Native.Nat.{ℕ, _≤_}
 use lib.Dec.{eqb}
-use lib.IntN.{ℤ, pos}
+use lib.IntN.{ℤ}
 use lib.ListN.{length}
-use lib.Signed.{_≤ℤ_}
 use Rattle.integers.specs.Base.{up}
 use Rattle.integers.specs.Linear.{line}
-use Rattle.tables.specs.Constants.{frameSize}
+use Rattle.tables.specs.Constants.{frameSize, subframesPerFrame, lagBPlace, step3Place, lagCodeMax, stepCodeMax}
 use Rattle.lpc.specs.Lpc.{frameCoefficients}
 use Rattle.excitation.specs.declared.Subframe.the-variants.{Two, Three}
 use Rattle.excitation.proofs.Bounds.{tap-sum-bounds, unvoiced-gain-most}
@@ -24,7 +23,7 @@ use Rattle.refusals.proofs.Accepted.{codes-high, codes-low}
 use Rattle.numbers.specs.declared.Refusal.the-variants.{SampleLength, StateBounds}
 use Rattle.refusals.specs.declared.Found.{Found}
 use Rattle.refusals.specs.declared.Found.the-variants.{Erased, High, Low, Refused}
-use Rattle.state.specs.State.{inBounds}
+use Rattle.state.specs.State.{lastLagBounded, lastBounded, inBounds}
 use Rattle.state.specs.declared.State.{State}
 use Rattle.state.proofs.Bounds as states
 use Rattle.decoder.specs.Frame.{plainInputs, filtersOf, frameState, erasedLsps, erasedSignal, erasedLast, erasedState}
@@ -43,11 +42,10 @@ fresh-in-bounds = states.fresh-in-bounds
 -- ---- the end of a frame
 
 -- what is stored for erased frames is in bounds
-record LastIn (last : LastFrame) : Type 0 where
-  pub lag : (pos 17 ≤ℤ last .«last_lag») × (last .«last_lag» ≤ℤ pos 147)
-  pub lag2 : (pos 18 ≤ℤ last .«last_lag2») × (last .«last_lag2» ≤ℤ pos 145)
-  pub taps : (pos 0 ≤ℤ last .«last_taps_sum_q15») × (last .«last_taps_sum_q15» ≤ℤ pos 32767)
-  pub unvoiced : (pos 0 ≤ℤ last .«last_gain_unvoiced») × (last .«last_gain_unvoiced» ≤ℤ pos 13246)
+abbrev LastIn : LastFrame → Type 0
+LastIn last =
+    states.AllLie (lastLagBounded (last .«last_lag»)
+    ∷ lastBounded (last .«last_lag2») (last .«last_taps_sum_q15») (last .«last_gain_unvoiced»))
 
 module _ (s : State) (h : inBounds s ≡ true) where
   frame-in : (lsps signal : List ℤ) (inputs : List (List ℤ)) (last : LastFrame) → WordsTo 386 signal → LastIn last →
@@ -59,20 +57,12 @@ module _ (s : State) (h : inBounds s ≡ true) where
       states.bounds-from (frameState s lsps inputs signal last)
       (history-words signal w)
       (memory-words (s .postfilter) sets inputs before)
-      (record {
-        gain = gain-frame (s .postfilter) sets inputs before (states.numbers-of s h .gain) 4;
-        lag = l .lag;
-        lag2 = l .lag2;
-        taps = l .taps;
-        unvoiced = l .unvoiced;
-      })
+      (gain-frame (s .postfilter) sets inputs before (states.numbers-of s h .0) subframesPerFrame, l)
 
   -- ---- an erased and a received frame
 
   erased-last : LastIn (erasedLast s)
-  erased-last =
-      let n = states.numbers-of s h in
-      record { lag = n .lag; lag2 = n .lag2; taps = n .taps; unvoiced = n .unvoiced }
+  erased-last = states.numbers-of s h .1
 
   erased-in : inBounds (erasedState s) ≡ true
   unfolding erasedState
@@ -82,16 +72,11 @@ module _ (s : State) (h : inBounds s ≡ true) where
       (erased-words voicing (s .«last_taps_sum_q15») (s .«last_gain_unvoiced») (nextRun (s .«erased_run»)) (s .«exc_hist»))
       erased-last
 
-  module _ (rate : Rate) (r : List ℕ) (c : byte r 23 ≤ 127) (d : byte r 24 ≤ 3) where
+  module _ (rate : Rate) (r : List ℕ) (c : byte r lagBPlace ≤ lagCodeMax) (d : byte r step3Place ≤ stepCodeMax) where
     received-last : LastIn (receivedLast s rate r)
     received-last =
-        let most = unvoiced-gain-most (blockOf rate r Two .gain) (blockOf rate r Three .gain) in
-        record {
-          lag = lag-bounds rate r c d;
-          lag2 = lag2-bounds rate r c;
-          taps = tap-sum-bounds (blockOf rate r Three .taps);
-          unvoiced = omega line;
-        }
+        let most = unvoiced-gain-most (blockOf rate r Two .«gain_index») (blockOf rate r Three .«gain_index») in
+        (lag-bounds rate r c d, lag2-bounds rate r c, tap-sum-bounds (blockOf rate r Three .taps), omega line, tt)
 
     received-in : inBounds (receivedState s rate r) ≡ true
     unfolding receivedState

@@ -1,6 +1,9 @@
--- Numbers 8 to 10 refuse every description that is not accepted.
+-- Numbers 8 to 10 refuse every description that is not accepted; a block's fixed vector is defined as its description's.
+use mathlib.Core.Path.{refl}
+use Rattle.record.specs.Record.{blockOf}
 use Rattle.refusals.proofs.Accepted.{accepted-description}
 use Rattle.theorems.specs.Descriptions.{AcceptedDescriptions}
 
 pub accepted-descriptions : AcceptedDescriptions
-accepted-descriptions = accepted-description
+unfolding blockOf
+accepted-descriptions s r h k = (accepted-description r h k, refl)

@@ -5,13 +5,14 @@ use Prim.Native.Nat.{ℕ, zero, suc}
 use lib.ListN.{getD}
 use lib.IntN.{ℤ, pos}
 use lib.Signed.{_≤ℤ_}
+use Rattle.tables.specs.Constants.{agcMax}
 use Rattle.postfilter.specs.declared.Postfilter.{Postfilter}
 use Rattle.postfilter.proofs.Bounds.{memory-gain}
 use Rattle.output.specs.Output.{synthesisOf, filtersAfter, filtersAt}
 use Rattle.output.specs.declared.Filters.{Filters}
 
 abbrev GainIn : Postfilter → Type 0
-GainIn m = (pos 0 ≤ℤ m .«agc_gain_q12») × (m .«agc_gain_q12» ≤ℤ pos 1048576)
+GainIn m = (pos 0 ≤ℤ m .«agc_gain_q12») × (m .«agc_gain_q12» ≤ℤ pos agcMax)
 
 -- after a subframe
 gain-subframe : (on : Bool) (a x : List ℤ) (f : Filters) → GainIn (f .pf) → GainIn (filtersAfter on a x f .pf)

@@ -13,7 +13,7 @@ use mir.Val.{SFits}
 use Rattle.integers.specs.Base.{entry, tabulate, AllFit}
 use Rattle.integers.specs.Fill.{tabulate-at, tabulate-length}
 use Rattle.integers.specs.Natural.{le-or-lt}
-use Rattle.excitation.specs.Excitation.{place, withSubframe, inTurn, limitedSum}
+use Rattle.excitation.specs.Excitation.{subframePlace, withSubframe, inTurn, limitedSum}
 use Rattle.excitation.specs.declared.Subframe.{Subframe}
 use Rattle.excitation.specs.declared.Subframe.the-variants.{Zero, One, Two, Three}
 use Rattle.adaptive.specs.Adaptive.{limitedLag, adaptive}
@@ -92,7 +92,7 @@ module _ (x e : List ℤ) (p : ℕ) (room : p ≤ 326) (s : Sixty e) (w : WordsT
 
 module _ (e : List ℤ → Subframe → List ℤ) (s : (x : List ℤ) (k : Subframe) → Sixty (e x k)) where
   abbrev pushed : List ℤ → Subframe → List ℤ
-  pushed x k = withSubframe x (place k) (e x k)
+  pushed x k = withSubframe x (subframePlace k) (e x k)
 
   words-turns : (x : List ℤ) → length x ≡ 386 → WordsTo 386 (inTurn pushed x)
   words-turns x h =
@@ -119,15 +119,15 @@ pub erased-words : (v : Voicing) (sum gain : ℤ) (run : ℕ) (h : List ℤ) →
     WordsTo 386 (erasedExcitation v sum gain run (frameSignal h))
 unfolding erasedExcitation
 erased-words Unvoiced sum gain run h =
-    words-turns (λ x k. noiseSubframe (attenuated gain run) (wordAfter (startWord run) (place k - 146)))
-    (λ x k. noise-sixty (attenuated gain run) (wordAfter (startWord run) (place k - 146))) (frameSignal h) (signal-length h)
+    words-turns (λ x k. noiseSubframe (attenuated gain run) (wordAfter (startWord run) (subframePlace k - 146)))
+    (λ x k. noise-sixty (attenuated gain run) (wordAfter (startWord run) (subframePlace k - 146))) (frameSignal h) (signal-length h)
 erased-words (Voiced lag) sum gain run h =
-    words-turns (λ x k. replayed x (place k) (limitedLag (pos lag)) (attenuated sum run))
-    (λ x k. replay-sixty x (place k) (limitedLag (pos lag)) (attenuated sum run)) (frameSignal h) (signal-length h)
+    words-turns (λ x k. replayed x (subframePlace k) (limitedLag (pos lag)) (attenuated sum run))
+    (λ x k. replay-sixty x (subframePlace k) (limitedLag (pos lag)) (attenuated sum run)) (frameSignal h) (signal-length h)
 
 pub received-words : (b : Subframe → Block) (h : List ℤ) →
     WordsTo 386 (inTurn (λ x k. receivedTo (b k) x k) (frameSignal h))
 received-words b h =
-    words-turns (λ x k. limitedSum (adaptive x (place k) (limitedLag (b k .lag)) (b k .taps)) (b k .fixed))
-    (λ x k. sum-sixty (adaptive x (place k) (limitedLag (b k .lag)) (b k .taps)) (b k .fixed))
+    words-turns (λ x k. limitedSum (adaptive x (subframePlace k) (limitedLag (b k .lag)) (b k .taps)) (b k .fixed))
+    (λ x k. sum-sixty (adaptive x (subframePlace k) (limitedLag (b k .lag)) (b k .taps)) (b k .fixed))
     (frameSignal h) (signal-length h)

@@ -3,23 +3,22 @@ use mathlib.Core.Path.{_≡_, refl, sym, ap, _∙_}
 use mathlib.Core.Bool.{Bool, cond, _&&_}
 use mathlib.Core.List.{List, [], _∷_}
 use Prim.Native.Nat.{ℕ}
-use lib.IntN.{ℤ, pos}
-use Rattle.tables.specs.Constants.{excHist, lpcOrder, pitchMin, agcMax}
-use Rattle.tables.specs.Constants.{lastLagMin, lastLagMax, lastBaseLagMax, unvoicedGainMax}
+use lib.IntN.{ℤ}
+use lib.ListN.{getD, drop}
 use Rattle.refusals.specs.declared.Found.{Found}
 use Rattle.refusals.specs.declared.Found.the-variants.{Erased, High, Low, Refused}
-use Rattle.state.specs.State.{between, areWords, inBounds}
+use Rattle.state.specs.State.{isInBounds, areInBounds, lastLagBounded, boundedNumbers, inBounds}
 use Rattle.state.specs.declared.State.{State}
-use Rattle.state.proofs.Bounds.{numbers-of}
+use Rattle.state.proofs.Bounds.{isHistory, isMemory, numbers-of}
 use Rattle.state.proofs.Tests.{between-out}
 use Rattle.decoder.specs.Frame.{frameState, erasedSamples, erasedState, receivedSamples, receivedState}
 use Rattle.decoder.specs.Decoder.{examined, answerTo, samplesTo, answerOf, samplesOf}
-use Rattle.theorems.specs.Call.{Item, next, isAccepted, after, heard}
-use Rattle.theorems.specs.LastLag.{withLastLag, InBoundsWith, LastLagUnread, LastLagUnheard}
+use Rattle.theorems.specs.Call.{Item, next, isAccepted, after, acceptedSamples}
+use Rattle.theorems.specs.LastLag.{withLastLag, InBoundsWith, LastLagUnread, LastLagUnreadInCalls}
 use Rattle.theorems.proofs.Examined.{examined-same}
 
 abbrev isLag : ℤ → Bool
-isLag l = between (pos lastLagMin) (pos lastLagMax) l
+isLag l = isInBounds (lastLagBounded l)
 
 -- the state's lag and l are both in bounds, or neither
 abbrev SameTest : State → ℤ → Type 0
@@ -28,18 +27,16 @@ SameTest s l = isLag l ≡ isLag (s .«last_lag»)
 -- so are then the states
 same-bounds : (s : State) (l : ℤ) → SameTest s l → inBounds (withLastLag l s) ≡ inBounds s
 unfolding inBounds
-same-bounds s l h = λ i.
-    areWords (s .«exc_hist») excHist && (areWords (s .«syn_mem») lpcOrder
-    && (between (pos 0) (pos agcMax) (s .pf .«agc_gain_q12»)
-    && (h i
-    && (between (pos pitchMin) (pos lastBaseLagMax) (s .«last_lag2»)
-    && (between (pos 0) (pos 32767) (s .«last_taps_sum_q15»)
-    && between (pos 0) (pos unvoicedGainMax) (s .«last_gain_unvoiced»))))))
+same-bounds s l h =
+    let rest = areInBounds (drop 2 (boundedNumbers s)) in
+    let first = isInBounds (getD (boundedNumbers s) 0 (lastLagBounded l)) in
+    λ i. isHistory s && (isMemory s && (first && (h i && rest)))
 
 same-test : (s : State) (l : ℤ) → InBoundsWith s l → SameTest s l
 same-test s l k =
-    let n = numbers-of s (k .state) .lag in
-    k .lag ∙ sym (between-out (pos lastLagMin) (pos lastLagMax) (s .«last_lag») (n .0) (n .1))
+    let n = numbers-of s (k .state) .1 .0 in
+    let b = lastLagBounded (s .«last_lag») in
+    k .lag ∙ sym (between-out (b .least) (b .most) (b .value) (n .0) (n .1))
 
 -- ---- what follows from what the record is found to be
 
@@ -115,19 +112,19 @@ last-lag-unread s l i k =
 
 -- ---- a sequence
 
-unheard :
+unread-in-calls :
     (s : State) (l : ℤ) (items : List Item) → SameTest s l
-    → (heard (withLastLag l s) items ≡ heard s items)
+    → (acceptedSamples (withLastLag l s) items ≡ acceptedSamples s items)
     × ((m : ℤ) → withLastLag m (after (withLastLag l s) items) ≡ withLastLag m (after s items))
-unfolding heard after
-unheard s l [] h = (refl, λ m. refl)
-unheard s l (i ∷ is) h =
+unfolding acceptedSamples after
+unread-in-calls s l [] h = (refl, λ m. refl)
+unread-in-calls s l (i ∷ is) h =
     let to = state-next s l i h in
-    let k = unheard (next s i) (nextLag s l i h) is (test-next s l i h) in
-    let rest = ap (λ (t : State). heard t is) to ∙ k .0 in (
+    let k = unread-in-calls (next s i) (nextLag s l i h) is (test-next s l i h) in
+    let rest = ap (λ (t : State). acceptedSamples t is) to ∙ k .0 in (
       λ j. cond (isAccepted (verdict-same s l i h j)) (samples-same s l i h j ∷ rest j) (rest j),
       λ m. ap (λ (t : State). withLastLag m (after t is)) to ∙ k .1 m,
     )
 
-pub last-lag-unheard : LastLagUnheard
-last-lag-unheard s l items k = unheard s l items (same-test s l k)
+pub last-lag-unread-in-calls : LastLagUnreadInCalls
+last-lag-unread-in-calls s l items k = unread-in-calls s l items (same-test s l k)

@@ -10,8 +10,8 @@ use Rattle.state.specs.declared.State.{State}
 use Rattle.refusals.specs.declared.Found.{Found}
 use Rattle.refusals.specs.declared.Found.the-variants.{Erased, High, Low, Refused}
 use Rattle.decoder.specs.Decoder.{examined, answerTo, samplesTo, samplesOf}
-use Rattle.theorems.specs.Call.{Item, next, isAccepted, accepted, after, heard, acceptedOnly}
-use Rattle.theorems.specs.Refused.{RefusalKeeps, NotHeard}
+use Rattle.theorems.specs.Call.{Item, next, isAccepted, accepted, after, acceptedSamples, acceptedOnly}
+use Rattle.theorems.specs.Refused.{RefusalKeeps, AcceptedAlone}
 
 -- ---- one record
 
@@ -30,39 +30,39 @@ refusal-keeps s i h = keeps (examined s (i .bytes) (i .samples)) s (i .bytes) (i
 -- ---- a sequence
 
 -- xs is heard as items are, and none of it is refused
-abbrev HeardAs : State → List Item → List Item → Type 0
-HeardAs s items xs = (heard s xs ≡ heard s items) × (after s xs ≡ after s items) × (length (heard s xs) ≡ length xs)
+abbrev AnsweredAs : State → List Item → List Item → Type 0
+AnsweredAs s items xs = (acceptedSamples s xs ≡ acceptedSamples s items) × (after s xs ≡ after s items) × (length (acceptedSamples s xs) ≡ length xs)
 
 module _ (s : State) (i : Item) where
   abbrev first : List ℤ
   first = samplesOf s (i .bytes) (i .samples)
 
-  heard-by :
+  samples-by :
       {b : Bool} → accepted s i ≡ b → (is : List Item)
-      → heard s (i ∷ is) ≡ cond b (first ∷ heard (next s i) is) (heard (next s i) is)
-  unfolding heard
-  heard-by h is = ap (λ (b : Bool). cond b (first ∷ heard (next s i) is) (heard (next s i) is)) h
+      → acceptedSamples s (i ∷ is) ≡ cond b (first ∷ acceptedSamples (next s i) is) (acceptedSamples (next s i) is)
+  unfolding acceptedSamples
+  samples-by h is = ap (λ (b : Bool). cond b (first ∷ acceptedSamples (next s i) is) (acceptedSamples (next s i) is)) h
 
   -- the record, in front of a sequence of which xs is heard as the whole is
-  module _ (is xs : List Item) (k : HeardAs (next s i) is xs) where
-    first-accepted : accepted s i ≡ true → HeardAs s (i ∷ is) (i ∷ xs)
+  module _ (is xs : List Item) (k : AnsweredAs (next s i) is xs) where
+    first-accepted : accepted s i ≡ true → AnsweredAs s (i ∷ is) (i ∷ xs)
     unfolding after
     first-accepted h =
         let with-samples : List (List ℤ) → List (List ℤ) = λ o. first ∷ o in
-        (heard-by h xs ∙ ap with-samples (k .0) ∙ sym (heard-by h is), k .1, ap length (heard-by h xs) ∙ ap suc (k .2))
+        (samples-by h xs ∙ ap with-samples (k .0) ∙ sym (samples-by h is), k .1, ap length (samples-by h xs) ∙ ap suc (k .2))
 
-    first-refused : accepted s i ≡ false → HeardAs s (i ∷ is) xs
+    first-refused : accepted s i ≡ false → AnsweredAs s (i ∷ is) xs
     unfolding after
     first-refused h =
         let same : s ≡ next s i = sym (refusal-keeps s i h .0) in
-        let alike : heard s xs ≡ heard (next s i) xs = ap (λ (t : State). heard t xs) same in
-        (alike ∙ k .0 ∙ sym (heard-by h is), ap (λ (t : State). after t xs) same ∙ k .1, ap length alike ∙ k .2)
+        let alike : acceptedSamples s xs ≡ acceptedSamples (next s i) xs = ap (λ (t : State). acceptedSamples t xs) same in
+        (alike ∙ k .0 ∙ sym (samples-by h is), ap (λ (t : State). after t xs) same ∙ k .1, ap length alike ∙ k .2)
 
-    with-first : (b : Bool) → accepted s i ≡ b → HeardAs s (i ∷ is) (cond b (i ∷ xs) xs)
+    with-first : (b : Bool) → accepted s i ≡ b → AnsweredAs s (i ∷ is) (cond b (i ∷ xs) xs)
     with-first true h = first-accepted h
     with-first false h = first-refused h
 
-pub not-heard : NotHeard
-unfolding heard after acceptedOnly
-not-heard s [] = (refl, refl, refl)
-not-heard s (i ∷ is) = with-first s i is (acceptedOnly (next s i) is) (not-heard (next s i) is) (accepted s i) refl
+pub accepted-alone : AcceptedAlone
+unfolding acceptedSamples after acceptedOnly
+accepted-alone s [] = (refl, refl, refl)
+accepted-alone s (i ∷ is) = with-first s i is (acceptedOnly (next s i) is) (accepted-alone (next s i) is) (accepted s i) refl

@@ -32,10 +32,10 @@ after s [] = s
 after s (i ∷ is) = after (next s i) is
 
 -- what is heard: 240 samples for each record that is accepted
-unfoldable pub heard : State → List Item → List (List ℤ)
-heard s [] = []
-heard s (i ∷ is) =
-    let rest = heard (next s i) is in cond (accepted s i) (samplesOf s (i .bytes) (i .samples) ∷ rest) rest
+unfoldable pub acceptedSamples : State → List Item → List (List ℤ)
+acceptedSamples s [] = []
+acceptedSamples s (i ∷ is) =
+    let rest = acceptedSamples (next s i) is in cond (accepted s i) (samplesOf s (i .bytes) (i .samples) ∷ rest) rest
 
 -- the records that are accepted
 unfoldable pub acceptedOnly : State → List Item → List Item

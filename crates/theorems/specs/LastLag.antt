@@ -2,12 +2,11 @@
 use mathlib.Core.Path.{_≡_}
 use mathlib.Core.Bool.{true}
 use mathlib.Core.List.{List}
-use lib.IntN.{ℤ, pos}
-use Rattle.tables.specs.Constants.{lastLagMin, lastLagMax}
-use Rattle.state.specs.State.{between, inBounds}
+use lib.IntN.{ℤ}
+use Rattle.state.specs.State.{isInBounds, lastLagBounded, inBounds}
 use Rattle.state.specs.declared.State.{State}
 use Rattle.decoder.specs.Decoder.{answerOf, samplesOf}
-use Rattle.theorems.specs.Call.{Item, next, after, heard}
+use Rattle.theorems.specs.Call.{Item, next, after, acceptedSamples}
 
 -- a state with another stored lag of subframe 3
 abbrev pub withLastLag : ℤ → State → State
@@ -28,7 +27,7 @@ withLastLag l s = record {
 -- a state in bounds, and a lag that leaves it there
 pub record InBoundsWith (s : State) (l : ℤ) : Type 0 where
   pub state : inBounds s ≡ true
-  pub lag : between (pos lastLagMin) (pos lastLagMax) l ≡ true
+  pub lag : isInBounds (lastLagBounded l) ≡ true
 
 -- over one record: verdict, samples, and each other field of the next state
 abbrev pub LastLagUnread : Type 0
@@ -39,8 +38,8 @@ LastLagUnread =
     × ((m : ℤ) → withLastLag m (next (withLastLag l s) i) ≡ withLastLag m (next s i))
 
 -- over any sequence of records
-abbrev pub LastLagUnheard : Type 0
-LastLagUnheard =
+abbrev pub LastLagUnreadInCalls : Type 0
+LastLagUnreadInCalls =
     (s : State) (l : ℤ) (items : List Item) → InBoundsWith s l
-    → (heard (withLastLag l s) items ≡ heard s items)
+    → (acceptedSamples (withLastLag l s) items ≡ acceptedSamples s items)
     × ((m : ℤ) → withLastLag m (after (withLastLag l s) items) ≡ withLastLag m (after s items))

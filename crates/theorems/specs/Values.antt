@@ -6,9 +6,9 @@ use lib.IntN.{pos, negsuc}
 use Rattle.isqrt.specs.Root.{root}
 use Rattle.stability.specs.Stability.{stabilised}
 use Rattle.lpc.specs.Lpc.{cosine}
-use Rattle.positions.specs.Positions.{slots, positions}
+use Rattle.positions.specs.Positions.{bits, positions}
 use Rattle.positions.specs.declared.Count.the-variants.{Five, Six}
-use Rattle.positions.specs.declared.Slots.the-variants.{None}
+use Rattle.positions.specs.declared.Slots.the-variants.{Of, None}
 use Rattle.pulses.specs.Pulses.{vector}
 use Rattle.postfilter.specs.Postfilter.{towards}
 
@@ -29,15 +29,15 @@ pub record StarredValues : Type 0 where
   pub root-of-15 : root 15 ≡ 3
   pub root-of-16 : root 16 ≡ 4
   -- six pulses: code 0 gives slots 0..5; 118754 gives 0 and 25..29; 118755 gives 1..6; 593774 gives 24..29; 593775 none
-  pub six-0 : slots Six 0 ≡ 0 ∷ 1 ∷ 2 ∷ 3 ∷ 4 ∷ 5 ∷ []
-  pub six-118754 : slots Six 118754 ≡ 0 ∷ 25 ∷ 26 ∷ 27 ∷ 28 ∷ 29 ∷ []
-  pub six-118755 : slots Six 118755 ≡ 1 ∷ 2 ∷ 3 ∷ 4 ∷ 5 ∷ 6 ∷ []
-  pub six-593774 : slots Six 593774 ≡ 24 ∷ 25 ∷ 26 ∷ 27 ∷ 28 ∷ 29 ∷ []
+  pub six-0 : positions Six 0 ≡ Of (bits (0 ∷ 1 ∷ 2 ∷ 3 ∷ 4 ∷ 5 ∷ []))
+  pub six-118754 : positions Six 118754 ≡ Of (bits (0 ∷ 25 ∷ 26 ∷ 27 ∷ 28 ∷ 29 ∷ []))
+  pub six-118755 : positions Six 118755 ≡ Of (bits (1 ∷ 2 ∷ 3 ∷ 4 ∷ 5 ∷ 6 ∷ []))
+  pub six-593774 : positions Six 593774 ≡ Of (bits (24 ∷ 25 ∷ 26 ∷ 27 ∷ 28 ∷ 29 ∷ []))
   pub six-593775 : positions Six 593775 ≡ None
   -- five: 142505 gives 25..29
-  pub five-142505 : slots Five 142505 ≡ 25 ∷ 26 ∷ 27 ∷ 28 ∷ 29 ∷ []
+  pub five-142505 : positions Five 142505 ≡ Of (bits (25 ∷ 26 ∷ 27 ∷ 28 ∷ 29 ∷ []))
   -- gain index 0, grid 0, code 0, five pulses, no signs, train, lag 18: 2 at eighteen samples: 0..8, 18..26, 36..44 and 54..58, evens only
-  pub train-18 : vector (record { count = Five; train = true; lag = 18; grid = false; code = 0; signs = 0; gain = 0 }) ≡
+  pub train-18 : vector (record { count = Five; train = true; «base_lag» = 18; grid = false; code = 0; signs = 0; «gain_index» = 0 }) ≡
       pos 2 ∷ pos 0 ∷ pos 2 ∷ pos 0 ∷ pos 2 ∷ pos 0 ∷ pos 2 ∷ pos 0 ∷ pos 2 ∷ pos 0 ∷ pos 0 ∷ pos 0 ∷ pos 0 ∷ pos 0 ∷ pos 0 ∷ pos 0 ∷ pos 0 ∷ pos 0 ∷
       pos 2 ∷ pos 0 ∷ pos 2 ∷ pos 0 ∷ pos 2 ∷ pos 0 ∷ pos 2 ∷ pos 0 ∷ pos 2 ∷ pos 0 ∷ pos 0 ∷ pos 0 ∷ pos 0 ∷ pos 0 ∷ pos 0 ∷ pos 0 ∷ pos 0 ∷ pos 0 ∷
       pos 2 ∷ pos 0 ∷ pos 2 ∷ pos 0 ∷ pos 2 ∷ pos 0 ∷ pos 2 ∷ pos 0 ∷ pos 2 ∷ pos 0 ∷ pos 0 ∷ pos 0 ∷ pos 0 ∷ pos 0 ∷ pos 0 ∷ pos 0 ∷ pos 0 ∷ pos 0 ∷

@@ -1,1 +1,1 @@
-// Laws that the crates above cite; see specs/.
+// Laws over the whole decoder, and no code: specs/ has their statements.

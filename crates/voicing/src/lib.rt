@@ -10,6 +10,10 @@ ghost use Rattle.voicing.specs.Voicing.{candidate, leadingLag, voicingOf
 ghost use Rattle.voicing.specs.Search.{scoreOf, WeighsBy, Weighs};
 use wide::Wide;
 
+const HISTORY: u8 = tables::ERASURE_CLASSIFIER_HISTORY_LEN as u8;
+
+const CANDIDATES: u8 = tables::LAG_CANDIDATES as u8;
+
 pub enum Voicing {
     Unvoiced,
     Voiced(u8),
@@ -89,10 +93,10 @@ fn with_sums(lag: u8, s: i64, e: u64, t: u64) -> Leader
 fn weighed(pcm_hist: &[i16; 120], lag: u8) -> Leader
     ensures { λ r. ⌜ Weighs (now («pcm_hist» .entry)) lag r ⌝ }
 {
-    if lag >= 120 {
+    if lag >= HISTORY {
         return uncounted(lag);
     }
-    let n = 120 - lag;
+    let n = HISTORY - lag;
     let s = correlation::correlate(pcm_hist, lag as usize, pcm_hist, 0, n);
     let e = correlation::energy_from(pcm_hist, 0, n);
     let t = correlation::energy_from(pcm_hist, lag as usize, n);
@@ -119,7 +123,7 @@ fn leading(pcm_hist: &[i16; 120], centre: u8) -> Leader
 {
     let mut best = weighed(pcm_hist, candidate_lag(centre, 0));
     let mut k: u8 = 1;
-    while k < 7 {
+    while k < CANDIDATES {
         let next = weighed(pcm_hist, candidate_lag(centre, k));
         let b = higher(best, next);
         best = b;

@@ -9,7 +9,7 @@ pub fn frame_signal(exc_hist: [i32; 146]) -> [i16; 386]
 {
     let mut x = [0i16; 386];
     let mut i: usize = 0;
-    while i < 146 {
+    while i < tables::EXC_HIST {
         x[i] = basicop::saturate(exc_hist[i]);
         i += 1;
     }
@@ -22,8 +22,8 @@ pub fn history_after(signal: &[i16; 386]) -> [i32; 146]
 {
     let mut h = [0i32; 146];
     let mut i: usize = 0;
-    while i < 146 {
-        h[i] = signal[240 + i] as i32;
+    while i < tables::EXC_HIST {
+        h[i] = signal[tables::FRAME_SIZE_SAMPLES + i] as i32;
         i += 1;
     }
     h
@@ -35,7 +35,7 @@ pub fn narrow_memory(syn_mem: [i32; 10]) -> [i16; 10]
 {
     let mut m = [0i16; 10];
     let mut i: usize = 0;
-    while i < 10 {
+    while i < tables::LPC_ORDER {
         m[i] = basicop::saturate(syn_mem[i]);
         i += 1;
     }
@@ -46,10 +46,10 @@ pub fn widen_memory(mem: [i16; 10]) -> [i32; 10]
     ensures { λ r. ⌜ r ≡ mem ⌝ }
 {
     let mut m = [0i32; 10];
-    let mut i: usize = 0;
-    while i < 10 {
-        m[i] = mem[i] as i32;
-        i += 1;
+    let mut j: usize = 0;
+    while j < tables::LPC_ORDER {
+        m[j] = mem[j] as i32;
+        j += 1;
     }
     m
 }

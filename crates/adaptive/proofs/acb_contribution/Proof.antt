@@ -13,7 +13,7 @@ use Rattle.integers.specs.Fill.{fills-start, fills-next, fills-end}
 use Rattle.integers.specs.Signed.{back}
 use Rattle.tables.specs.Constants.{acbTaps}
 use Rattle.correlation.specs.Correlation.{correlation}
-use Rattle.excitation.proofs.Bounds.{place-bounds}
+use Rattle.excitation.proofs.Bounds.{subframe-place-bounds}
 use Rattle.adaptive.specs.Adaptive.{limitedLag, delayed, adaptiveSample, adaptive}
 use Rattle.adaptive.proofs.Bounds.{limited-lag-bounds}
 use Rattle.adaptive.proofs.Delays.{delayed-sum}
@@ -37,7 +37,7 @@ lag-is c = c .limited-lag .ensures ∙ ap limitedLag (toZ-ofZ {w = w32} (c .befo
 
 delayed-samples-requires : tie.Need-delayed-samples-requires Inv-loop μ-loop
 delayed-samples-requires c κs = (
-  rw (c .before .subframe-place .ensures) (place-bounds (c .before .before .args .s)),
+  rw (c .before .subframe-place .ensures) (subframe-place-bounds (c .before .before .args .s)),
   rw (lag-is c) (limited-lag-bounds (c .before .before .args .lag)),
 )
 

@@ -29,7 +29,7 @@ module _ (c : tie.After-examine) where
       examined (a .given) (a .«record» .now) (a .samples .now) ≡ k
   found-is e =
       let a = start .args in
-      record-found (a .given) (a .«record» .now) (a .samples .now) whole sound (sym (c .examine .ensures) ∙ e)
+      record-found (a .given) (a .«record» .now) (a .samples .now) whole sound (sym (c .examine .ensures .0) ∙ e)
 
 refused-requires : tie.Need-refused-requires
 refused-requires c κs = tt

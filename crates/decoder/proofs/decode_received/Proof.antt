@@ -195,7 +195,7 @@ returns c =
     let b = block-is (blocks n) in
     let sum = u .before .tap-sum in
     let gain = u .unvoiced-gain in
-    let unvoiced : Block → Block → ℤ = λ p q. pos (unvoicedGain (p .gain) (q .gain)) in (
+    let unvoiced : Block → Block → ℤ = λ p q. pos (unvoicedGain (p .«gain_index») (q .«gain_index»)) in (
       r .ensures .0 ∙ (λ i. frameState g (lsps-is l i) (inputs-is n i) (x i) record {
         «last_lag» = back w32 (t .before .struct-told5 .given .1 .0 .1) (λ j. b Three j .lag) i;
         «last_lag2» = back w32 (t .struct-told6 .given .1 .0 .1) (λ j. b Two j .lag) i;

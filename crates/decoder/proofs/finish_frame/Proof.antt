@@ -8,9 +8,9 @@ use mir.Syntax.{w32}
 use Rattle.integers.specs.Signed.{read-back}
 use Rattle.lpc.specs.Lpc.{frameCoefficients}
 use Rattle.state.proofs.Bounds.{memory-narrowed}
-use Rattle.output.specs.Output.{frameHeard, frameFilters}
+use Rattle.output.specs.Output.{frameOutput, frameFilters}
 use Rattle.output.specs.declared.Filters.{Filters}
-use Rattle.output.proofs.Frames.{filters-in, heard-in}
+use Rattle.output.proofs.Frames.{filters-in, output-in}
 use Rattle.decoder.specs.Frame.{frameSamples, filtersLast, frameState}
 use Rattle.decoder.proofs.Fields.{field-length}
 use Rattle.decoder.proofs.finish_frame.Statement.{statement}
@@ -34,11 +34,11 @@ module _ (c : tie.After-output-frame) where
   abbrev start : tie.Start
   start = memory .before .before .before .before
 
-  abbrev heard : List ℤ
-  heard = c .output-frame .last .0
+  abbrev written : List ℤ
+  written = c .output-frame .last .0
 
-  heard-length : length heard ≡ 240
-  heard-length = c .output-frame .kept .0 ∙ start .pre .0
+  output-length : length written ≡ 240
+  output-length = c .output-frame .kept .0 ∙ start .pre .0
 
   memory-is : memory .narrow-memory .result ≡ start .args .given .«syn_mem»
   memory-is =
@@ -56,13 +56,13 @@ module _ (c : tie.After-output-frame) where
   abbrev before : Filters
   before = record { «syn_mem» = memory .narrow-memory .result; pf = start .args .given .pf }
 
-  heard-is : let a = start .args in heard ≡ frameSamples (a .given) (a .lsps) (a .inputs)
-  heard-is =
+  output-is : let a = start .args in written ≡ frameSamples (a .given) (a .lsps) (a .inputs)
+  output-is =
       let a = start .args in
       let g = a .given in
       c .output-frame .ensures .1
-      ∙ heard-in (g .postfilter) sets (a .inputs) before (a .samples .now) (start .pre .0)
-      ∙ (λ i. frameHeard (g .postfilter) (sets-is i) (a .inputs) record { «syn_mem» = memory-is i; pf = g .pf })
+      ∙ output-in (g .postfilter) sets (a .inputs) before (a .samples .now) (start .pre .0)
+      ∙ (λ i. frameOutput (g .postfilter) (sets-is i) (a .inputs) record { «syn_mem» = memory-is i; pf = g .pf })
 
   filters-is : let a = start .args in c .output-frame .result ≡ filtersLast (a .given) (a .lsps) (a .inputs)
   filters-is =
@@ -79,11 +79,11 @@ part-pcm-history-start : tie.Need-part-pcm-history-start
 part-pcm-history-start c = omega arith
 
 part-pcm-history-end : tie.Need-part-pcm-history-end
-part-pcm-history-end c = omega (arith, heard-length (c .before .before))
+part-pcm-history-end c = omega (arith, output-length (c .before .before))
 
 pcm-history-requires : tie.Need-pcm-history-requires
 pcm-history-requires c κs =
-    let e = heard-length (c .before .before .before) in simp (length-take, length-drop) (omega (arith, e))
+    let e = output-length (c .before .before .before) in simp (length-take, length-drop) (omega (arith, e))
 
 history-after-requires : tie.Need-history-after-requires
 history-after-requires c κs = tt
@@ -104,8 +104,8 @@ returns c =
     let a = start o .args in
     let f = filters-is o in
     let told = c .struct-told .given in
-    let size = heard-length o in
-    let tail = take-all 120 (drop 120 (heard o)) (omega (arith, length-drop 120 (heard o), size)) in (
+    let size = output-length o in
+    let tail = take-all 120 (drop 120 (written o)) (omega (arith, length-drop 120 (written o), size)) in (
       (λ i. record {
         «prev_lsp» = a .lsps;
         «exc_hist» = h .history-after .ensures i;
@@ -115,11 +115,11 @@ returns c =
         «last_lag2» = read-back w32 (a .last .«last_lag2») (told .1 .0 .1) i;
         «last_taps_sum_q15» = read-back w32 (a .last .«last_taps_sum_q15») (told .1 .1 .0 .1) i;
         «last_gain_unvoiced» = read-back w32 (a .last .«last_gain_unvoiced») (told .1 .1 .1 .0 .1) i;
-        «pcm_hist» = (t .pcm-history .ensures ∙ tail ∙ ap (drop 120) (heard-is o)) i;
+        «pcm_hist» = (t .pcm-history .ensures ∙ tail ∙ ap (drop 120) (output-is o)) i;
         «erased_run» = a .last .«erased_run»;
         postfilter = a .given .postfilter;
       }),
-      heard-is o,
+      output-is o,
     )
 
 pub finish-frame-spec : {M : Type 1} → statement M

@@ -6,7 +6,7 @@ use mir.Syntax.{w32}
 use Rattle.integers.specs.Base.{entry}
 use Rattle.integers.specs.Signed.{read-back}
 use Rattle.layout.specs.Layout.{ordinal}
-use Rattle.excitation.specs.Excitation.{place}
+use Rattle.excitation.specs.Excitation.{subframePlace}
 use Rattle.excitation.specs.declared.Subframe.{Subframe}
 use Rattle.excitation.specs.declared.Subframe.the-variants.{Zero, One, Two, Three}
 use Rattle.adaptive.specs.Adaptive.{limitedLag}
@@ -62,7 +62,7 @@ returns-2 c =
     let lag1 = read-back w32 (entry (a .t4) 1) (x2 .before .pitch-postfilter-arg2 .given) in
     let lag2 = read-back w32 (entry (a .t4) 2) (x3 .before .pitch-postfilter-arg3 .given) in
     let lag3 = read-back w32 (entry (a .t4) 3) (c .before .pitch-postfilter-arg4 .given) in
-    let at : Subframe → ℤ → List ℤ = λ s z. postfiltered x (a .rate) (place s) (limitedLag z) in
+    let at : Subframe → ℤ → List ℤ = λ s z. postfiltered x (a .rate) (subframePlace s) (limitedLag z) in
     (λ i. (x1 .pitch-postfilter .ensures ∙ ap (at Zero) lag0) i
     ∷ (x2 .pitch-postfilter2 .ensures ∙ ap (at One) lag1) i
     ∷ (x3 .pitch-postfilter3 .ensures ∙ ap (at Two) lag2) i

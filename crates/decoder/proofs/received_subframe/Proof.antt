@@ -1,7 +1,7 @@
 use mathlib.Core.Path.{_∙_}
 use mir.Syntax.{w32}
 use Rattle.integers.specs.Signed.{read-back}
-use Rattle.excitation.specs.Excitation.{place, withSubframe, limitedSum}
+use Rattle.excitation.specs.Excitation.{subframePlace, withSubframe, limitedSum}
 use Rattle.adaptive.specs.Adaptive.{limitedLag, adaptive}
 use Rattle.decoder.proofs.received_subframe.Statement.{statement}
 use Rattle.decoder.proofs.received_subframe.Tie as tie
@@ -21,7 +21,7 @@ returns c =
     let u = e .before in
     let a = u .before .before .before .before .before .args in
     let lag = read-back w32 (a .b .lag) (u .before .struct-told .given .1 .0 .1) in
-    let p = place (a .s) in
+    let p = subframePlace (a .s) in
     let adapted = u .acb-contribution .ensures ∙ (λ i. adaptive (a .t1) p (limitedLag (lag i)) (a .b .taps)) in
     let summed = e .excitation-sum .ensures ∙ (λ i. limitedSum (adapted i) (a .b .fixed)) in
     c .push-excitation .ensures ∙ (λ i. withSubframe (a .t1) p (summed i))

@@ -11,7 +11,7 @@ use Rattle.integers.specs.Base.{Fills, entry, tabulate}
 use Rattle.integers.specs.Fill.{fills-start, fills-next, fills-end}
 use Rattle.integers.specs.Signed.{back, read-back}
 use Rattle.basicop.specs.Operators.{mult16}
-use Rattle.excitation.proofs.Bounds.{place-bounds}
+use Rattle.excitation.proofs.Bounds.{subframe-place-bounds}
 use Rattle.adaptive.specs.Adaptive.{limitedLag}
 use Rattle.adaptive.proofs.Bounds.{limited-lag-bounds}
 use Rattle.erasure.specs.Erasure.{replayed}
@@ -52,7 +52,7 @@ module _ (c : tie.After-subframe-place Inv-loop μ-loop) where
   bounds : (18 ≤ l) × (l ≤ 142) × (146 ≤ p) × (p ≤ 326)
   bounds =
       let lag = limited-lag-bounds (pos (c .before .before .args .lag)) in
-      let place = place-bounds (c .before .before .args .s) in
+      let place = subframe-place-bounds (c .before .before .args .s) in
       let at = c .subframe-place .ensures in
       (omega (arith, lag-is, lag), omega (arith, lag-is, lag), omega (arith, at, place), omega (arith, at, place))
 

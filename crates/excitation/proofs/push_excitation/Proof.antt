@@ -10,7 +10,7 @@ use mir.Syntax.{w16}
 use Rattle.integers.specs.Base.{entry}
 use Rattle.integers.specs.Signed.{read-back}
 use Rattle.excitation.specs.Excitation.{withSubframe}
-use Rattle.excitation.proofs.Bounds.{place-bounds}
+use Rattle.excitation.proofs.Bounds.{subframe-place-bounds}
 use Rattle.excitation.proofs.push_excitation.Statement.{statement}
 use Rattle.excitation.proofs.push_excitation.Tie as tie
 
@@ -28,7 +28,7 @@ loop-holds c = (omega arith, paste-zero (c .before .args .signal) (c .subframe-p
 
 -- the subframe lies in the signal
 room : (c : tie.After-subframe-place Inv-loop μ-loop) → c .subframe-place .result ≤ 326
-room c = omega (arith, c .subframe-place .ensures, place-bounds (c .before .args .s))
+room c = omega (arith, c .subframe-place .ensures, subframe-place-bounds (c .before .args .s))
 
 mul-x : tie.Need-mul-x Inv-loop μ-loop
 mul-x c = omega arith

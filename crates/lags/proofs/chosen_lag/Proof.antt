@@ -5,7 +5,7 @@ use borrow.Author.Needs.{needs}
 use mir.Syntax.{w32}
 use mir.Facts.{toZ-ofZ}
 use Rattle.adaptive.specs.Adaptive.{limitedLag}
-use Rattle.excitation.proofs.Bounds.{place-bounds}
+use Rattle.excitation.proofs.Bounds.{subframe-place-bounds}
 use Rattle.adaptive.proofs.Bounds.{limited-lag-bounds}
 use Rattle.lags.specs.Lags.{chosen, chosenLag}
 use Rattle.lags.specs.Search.{Inside, Small}
@@ -22,7 +22,7 @@ module _ (c : tie.After-subframe-place) where
   p = c .subframe-place .result
 
   placed : (146 ≤ p) × (p ≤ 326)
-  placed = subst (λ (n : ℕ). (146 ≤ n) × (n ≤ 326)) (sym (c .subframe-place .ensures)) (place-bounds (c .before .args .s))
+  placed = subst (λ (n : ℕ). (146 ≤ n) × (n ≤ 326)) (sym (c .subframe-place .ensures)) (subframe-place-bounds (c .before .args .s))
 
 limited-lag-requires : tie.Need-limited-lag-requires
 limited-lag-requires c κs = tt

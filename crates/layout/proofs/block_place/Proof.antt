@@ -6,7 +6,7 @@ use borrow.Author.Needs.{needs}
 use Rattle.excitation.specs.declared.Subframe.{Subframe}
 use Rattle.excitation.specs.declared.Rate.{Rate}
 use Rattle.layout.specs.Layout.{ordinal, blockSize, blockPlace}
-use Rattle.layout.proofs.Places.{place-bound}
+use Rattle.layout.proofs.Places.{block-place-bound}
 use Rattle.layout.proofs.block_place.Statement.{statement}
 use Rattle.layout.proofs.block_place.Tie as tie
 
@@ -52,7 +52,7 @@ module _ (c : tie.At-match2-came) where
   place-is = λ i. 25 + ordinal-is i * size-is i
 
   place-small : 25 + c .match2 .ordinal * c .before .match .size ≤ 418
-  place-small = omega (arith, place-is, place-bound rate s)
+  place-small = omega (arith, place-is, block-place-bound rate s)
 
 mul-result : tie.Need-mul-result
 mul-result c = omega (arith, place-small (c .before .before))

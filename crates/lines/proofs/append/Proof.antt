@@ -4,7 +4,7 @@ use Prim.Native.Nat.{_+_, _-_, _≤_}
 use native.Mathlib.Omega.{arith}
 use borrow.Author.Needs.{needs}
 use lib.ListN.{length, getD, drop}
-use Rattle.lines.specs.Replay.{pushed, pushedAll}
+use Rattle.lines.specs.Stream.{pushed, pushedAll}
 use Rattle.lines.specs.declared.Line.{Line}
 use Rattle.lines.proofs.Newlines.{lineOf, push-next, push-kept, push-over, push-none}
 use Rattle.lines.proofs.append.Statement.{statement}

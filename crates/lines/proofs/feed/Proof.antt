@@ -3,9 +3,9 @@ use Prim.Native.Nat.{ℕ, _+_, _≤_}
 use native.Mathlib.Omega.{arith}
 use lib.ListN.{length, take}
 use lib.Seq.{length-take-le, take-all}
-use Rattle.lines.specs.Replay.{pushedAll}
-use Rattle.lines.specs.Parts.{lineReply, fedBy, newlineAt}
-use Rattle.lines.proofs.Feeding.{withLine, longer, newline-inside, fed-ended, fed-going}
+use Rattle.lines.specs.Stream.{pushedAll}
+use Rattle.lines.specs.Parts.{lineReply, progressBy, newlineAt}
+use Rattle.lines.proofs.Feeding.{withLine, longer, newline-inside, progress-ended, progress-going}
 use borrow.Author.Needs.{needs}
 use Rattle.lines.proofs.feed.Statement.{statement}
 use Rattle.lines.proofs.feed.Tie as tie
@@ -22,11 +22,11 @@ slice-aggregate-part-reply c =
 part-reply-requires : tie.Need-part-reply-requires
 part-reply-requires c κs = tt
 
-add-fed-by : tie.Need-add-fed-by
-add-fed-by c = search needs
+add-progress-by : tie.Need-add-progress-by
+add-progress-by c = search needs
 
-fed-by-requires : tie.Need-fed-by-requires
-fed-by-requires c κs = tt
+progress-by-requires : tie.Need-progress-by-requires
+progress-by-requires c κs = tt
 
 returns : tie.Need-returns
 returns c =
@@ -36,7 +36,7 @@ returns c =
     let e = n .newline .ensures in
     let l : p .part-reply .result ≡ lineReply (longer (a .given) (a .input .now) .line) (a .given .state) =
     p .part-reply .ensures ∙ ap (λ (k : ℕ). lineReply (pushedAll (a .given .line) (take k (a .input .now))) (a .given .state)) e in
-    c .fed-by .ensures ∙ (λ i. fedBy (a .given .tallies) (p .part-reply .result) (e i + 1)) ∙ fed-ended (a .given) (a .input .now) (p .part-reply .result) (omega (arith, e)) l
+    c .progress-by .ensures ∙ (λ i. progressBy (a .given .tallies) (p .part-reply .result) (e i + 1)) ∙ progress-ended (a .given) (a .input .now) (p .part-reply .result) (omega (arith, e)) l
 
 append-requires : tie.Need-append-requires
 append-requires c κs = tt
@@ -53,8 +53,8 @@ returns-2 c =
     let g : length (a .input .now) ≤ newlineAt (a .input .now) = omega (arith, e) in
     let l : p .append .result ≡ longer (a .given) (a .input .now) .line =
     p .append .ensures ∙ ap (pushedAll (a .given .line)) (sym (take-all (newlineAt (a .input .now)) (a .input .now) g)) in
-    (λ i. record { replay = withLine (a .given) (p .append .result); text = c .no-text .result; used = e i })
-    ∙ fed-going (a .given) (a .input .now) (withLine (a .given) (p .append .result)) (c .no-text .result) g (ap (withLine (a .given)) l) (c .no-text .ensures)
+    (λ i. record { stream = withLine (a .given) (p .append .result); text = c .no-text .result; used = e i })
+    ∙ progress-going (a .given) (a .input .now) (withLine (a .given) (p .append .result)) (c .no-text .result) g (ap (withLine (a .given)) l) (c .no-text .ensures)
 
 pub feed-spec : {M : Type 1} → statement M
 feed-spec =
@@ -63,8 +63,8 @@ feed-spec =
     newline-requires
     slice-aggregate-part-reply
     part-reply-requires
-    add-fed-by
-    fed-by-requires
+    add-progress-by
+    progress-by-requires
     returns
     append-requires
     no-text-requires

@@ -9,15 +9,15 @@ is-begun-requires c κs = tt
 line-reply-requires : tie.Need-line-reply-requires
 line-reply-requires c κs = tt
 
-fed-by-requires : tie.Need-fed-by-requires
-fed-by-requires c κs = tt
+progress-by-requires : tie.Need-progress-by-requires
+progress-by-requires c κs = tt
 
 returns : tie.Need-returns
 returns c =
     let l = c .before in
     let b = l .before .before .before in
     let r = b .before .before .before .args .given in
-    finish-begun r (c .fed-by .result) (sym (b .before .is-begun .ensures) ∙ b .if1 .taken) (ended-is r (l .line-reply .result) (c .fed-by .result) (l .line-reply .ensures) (c .fed-by .ensures))
+    finish-begun r (c .progress-by .result) (sym (b .before .is-begun .ensures) ∙ b .if1 .taken) (ended-is r (l .line-reply .result) (c .progress-by .result) (l .line-reply .ensures) (c .progress-by .ensures))
 
 no-text-requires : tie.Need-no-text-requires
 no-text-requires c κs = tt
@@ -34,7 +34,7 @@ finish-spec =
     (tie.spec
     is-begun-requires
     line-reply-requires
-    fed-by-requires
+    progress-by-requires
     returns
     no-text-requires
     returns-2)

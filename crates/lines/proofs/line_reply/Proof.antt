@@ -3,7 +3,7 @@ use Prim.Native.Nat.{_≤_}
 use native.Mathlib.Omega.{arith}
 use lib.ListN.{length, length-take}
 use Rattle.digits.specs.Digits.{bytesOf}
-use Rattle.lines.specs.Replay.{characters, isRecord}
+use Rattle.lines.specs.Stream.{characters, isRecord}
 use Rattle.lines.proofs.Texts.{no-reply-of, not-when-over, line-text}
 use borrow.Author.Needs.{needs}
 use Rattle.lines.proofs.line_reply.Statement.{statement}

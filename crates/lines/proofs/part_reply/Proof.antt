@@ -1,7 +1,7 @@
 use mathlib.Core.Path.{sym, ap, _∙_}
 use mathlib.Core.List.{[]}
 use lib.ListN.{length-map}
-use Rattle.lines.specs.Replay.{pushedAll}
+use Rattle.lines.specs.Stream.{pushedAll}
 use Rattle.lines.specs.Parts.{lineReply}
 use Rattle.lines.specs.declared.Line.{Line}
 use Rattle.lines.proofs.Texts.{not-begun}

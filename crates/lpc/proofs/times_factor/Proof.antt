@@ -10,7 +10,7 @@ use Rattle.integers.specs.Signed.{back, read-back}
 use Rattle.integers.specs.Expression.{is-mag, is-result, within-is}
 use Rattle.integers.specs.Fill.{fills-start, fills-next, fills-end}
 use Rattle.lpc.specs.Lpc.{factorTerm, timesFactor}
-use Rattle.lpc.proofs.Products.{delayed-within}
+use Rattle.lpc.proofs.Products.{before-within}
 use Rattle.lpc.proofs.times_factor.Statement.{statement}
 use Rattle.lpc.proofs.times_factor.Tie as tie
 
@@ -43,7 +43,7 @@ term-requires c κs =
     let h = l .before .pre .at in
     let i = l .loop .i in (
       within-is (is-mag (entry (l .before .args .t1) i) (c .term-arg .given)) (h i),
-      (within-is (is-result w64 (y .result) (y .ok) (y .ensures)) (delayed-within h i 1), within-is (is-result w64 (z .result) (z .ok) (z .ensures)) (delayed-within h i 2)),
+      (within-is (is-result w64 (y .result) (y .ok) (y .ensures)) (before-within h i 1), within-is (is-result w64 (z .result) (z .ok) (z .ensures)) (before-within h i 2)),
     )
 
 mul-q : tie.Need-mul-q Inv-loop μ-loop

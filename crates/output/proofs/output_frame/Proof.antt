@@ -1,6 +1,6 @@
 use mathlib.Core.Path.{sym, _∙_}
 use borrow.Author.Needs.{needs}
-use Rattle.output.proofs.Frames.{filters-in, heard-in, filters-kept, samples-kept}
+use Rattle.output.proofs.Frames.{filters-in, output-in, filters-kept, samples-kept}
 use Rattle.output.proofs.output_frame.Statement.{statement}
 use Rattle.output.proofs.output_frame.Tie as tie
 
@@ -24,7 +24,7 @@ returns-2 c =
     let a = i .before .args in
     let e = c .before .output-subframes .ensures in (
       e .0 ∙ sym (filters-in (a .on) (a .sets) (a .inputs) (a .f) (a .samples .now) (i .if1 .left)),
-      e .1 ∙ sym (heard-in (a .on) (a .sets) (a .inputs) (a .f) (a .samples .now) (i .if1 .left)),
+      e .1 ∙ sym (output-in (a .on) (a .sets) (a .inputs) (a .f) (a .samples .now) (i .if1 .left)),
     )
 
 pub output-frame-spec : {M : Type 1} → statement M

@@ -1,6 +1,6 @@
 use mathlib.Core.Path.{_∙_, ap}
 use Rattle.postfilter.specs.Postfilter.{filtered, postfilterAfter}
-use Rattle.output.proofs.Subframes.{heard-off, heard-on, memories-off, memories-on}
+use Rattle.output.proofs.Subframes.{output-off, output-on, memories-off, memories-on}
 use Rattle.output.proofs.output_subframe.Statement.{statement}
 use Rattle.output.proofs.output_subframe.Tie as tie
 
@@ -28,7 +28,7 @@ returns c =
     let a = start-of (t .before) .args in
     let off = t .if1 .taken in (
       (λ i. record { «syn_mem» = y .ensures .1 i; pf = a .f .pf }) ∙ memories-off (a .on) (a .a) (a .t4) (a .f) off,
-      c .before .write-samples .ensures ∙ y .ensures .0 ∙ heard-off (a .on) (a .a) (a .t4) (a .f) off,
+      c .before .write-samples .ensures ∙ y .ensures .0 ∙ output-off (a .on) (a .a) (a .t4) (a .f) off,
     )
 
 postfilter-subframe-requires : tie.Need-postfilter-subframe-requires
@@ -50,9 +50,9 @@ returns-2 c =
     let on = t .if1 .left in
     let f = z .postfilter-subframe .ensures in
     let passed = f .1 ∙ ap (postfilterAfter (a .f .pf) (a .a)) (y .ensures .0) in
-    let heard = f .0 ∙ ap (filtered (a .f .pf) (a .a)) (y .ensures .0) in (
+    let written = f .0 ∙ ap (filtered (a .f .pf) (a .a)) (y .ensures .0) in (
       (λ i. record { «syn_mem» = y .ensures .1 i; pf = passed i }) ∙ memories-on (a .on) (a .a) (a .t4) (a .f) on,
-      w .write-samples2 .ensures ∙ heard ∙ heard-on (a .on) (a .a) (a .t4) (a .f) on,
+      w .write-samples2 .ensures ∙ written ∙ output-on (a .on) (a .a) (a .t4) (a .f) on,
     )
 
 pub output-subframe-spec : {M : Type 1} → statement M

@@ -2,7 +2,7 @@ use mathlib.Core.Path.{sym, ap, _∙_, subst}
 use Prim.Native.Nat.{ℕ, _≤_}
 use mir.Syntax.{w32}
 use mir.Facts.{toZ-ofZ}
-use Rattle.excitation.proofs.Bounds.{place-bounds}
+use Rattle.excitation.proofs.Bounds.{subframe-place-bounds}
 use Rattle.adaptive.specs.Adaptive.{limitedLag}
 use Rattle.lags.specs.Search.{Inside}
 use Rattle.lags.specs.Lags.{chosenLag}
@@ -23,7 +23,7 @@ module _ (c : tie.After-subframe-place) where
   p = c .subframe-place .result
 
   placed : p ≤ 326
-  placed = subst (λ (n : ℕ). n ≤ 326) (sym (c .subframe-place .ensures)) (place-bounds (c .before .args .s) .1)
+  placed = subst (λ (n : ℕ). n ≤ 326) (sym (c .subframe-place .ensures)) (subframe-place-bounds (c .before .args .s) .1)
 
 subframe-requires : tie.Need-subframe-requires
 subframe-requires c κs = placed (c .before .before .before)

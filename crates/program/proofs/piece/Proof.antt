@@ -7,17 +7,17 @@ use borrow.Author.Needs.{needs}
 use lib.ListN.{length, drop, length-drop, drop-of-length-le}
 use lib.Seq.{drop-drop, take-all}
 use Rattle.integers.specs.Truth.{clash}
-use Rattle.lines.specs.Replay.{after, fedOf}
-use Rattle.lines.proofs.Cuts.{fed-step, fed-carried, fed-used, nothing-carried}
+use Rattle.lines.specs.Stream.{streamAfter, progressOf}
+use Rattle.lines.proofs.Cuts.{progress-step, progress-carried, progress-used, nothing-carried}
 use Rattle.program.proofs.Reached.{Reached, reached-start, reached-more}
 use Rattle.program.proofs.piece.Statement.{statement}
 use Rattle.program.proofs.piece.Tie as tie
 
 abbrev Inv-loop : tie.InvT-loop
-Inv-loop input replay₀ at₀ replay at = (at ≤ length input) × (after replay₀ input ≡ after replay (drop at input)) × Reached replay₀ replay
+Inv-loop input replay₀ at₀ stream at = (at ≤ length input) × (streamAfter replay₀ input ≡ streamAfter stream (drop at input)) × Reached replay₀ stream
 
 abbrev μ-loop : tie.MeasureT-loop
-μ-loop input replay₀ at₀ replay at = length input - at
+μ-loop input replay₀ at₀ stream at = length input - at
 
 loop-holds : tie.Need-loop-holds Inv-loop μ-loop
 loop-holds c = (omega arith, refl, reached-start (c .before .args .given))
@@ -38,11 +38,11 @@ slice-aggregate-write : tie.Need-slice-aggregate-write Inv-loop μ-loop
 slice-aggregate-write c = search needs
 
 -- the call was for what is left of the piece
-fed : (c : tie.After-feed Inv-loop μ-loop) → let l = c .before .before .before in c .feed .result ≡ fedOf (l .loop .replay) (drop (l .loop .at) (l .before .before .args .input .now))
-fed c =
+progress : (c : tie.After-feed Inv-loop μ-loop) → let l = c .before .before .before in c .feed .result ≡ progressOf (l .loop .stream) (drop (l .loop .at) (l .before .before .args .input .now))
+progress c =
     let l = c .before .before .before in
     let xs = l .before .before .args .input .now in
-    c .feed .ensures ∙ ap (fedOf (l .loop .replay)) (take-all (length xs - l .loop .at) (drop (l .loop .at) xs) (omega (arith, length-drop (l .loop .at) xs)))
+    c .feed .ensures ∙ ap (progressOf (l .loop .stream)) (take-all (length xs - l .loop .at) (drop (l .loop .at) xs) (omega (arith, length-drop (l .loop .at) xs)))
 
 write-requires : tie.Need-write-requires Inv-loop μ-loop
 write-requires c κs = tt
@@ -51,7 +51,7 @@ returns : tie.Need-returns Inv-loop μ-loop
 returns c =
     let f = c .before .before .before .before .before .before in
     let l = f .before .before .before in
-    (λ e. clash {b = true} refl (sym e), reached-more (l .before .before .args .given) (l .loop .replay) (f .feed .result .replay) _ (l .loop .inv .2) (fed-carried (l .loop .replay) (drop (l .loop .at) (l .before .before .args .input .now)) (f .feed .result) (fed f)))
+    (λ e. clash {b = true} refl (sym e), reached-more (l .before .before .args .given) (l .loop .stream) (f .feed .result .stream) _ (l .loop .inv .2) (progress-carried (l .loop .stream) (drop (l .loop .at) (l .before .before .args .input .now)) (f .feed .result) (progress f)))
 
 add-at : tie.Need-add-at Inv-loop μ-loop
 add-at c =
@@ -59,7 +59,7 @@ add-at c =
     let l = f .before .before .before in
     let xs = l .before .before .args .input .now in
     let rest = drop (l .loop .at) xs in
-    let u = fed-used (l .loop .replay) rest (f .feed .result) (fed f) in
+    let u = progress-used (l .loop .stream) rest (f .feed .result) (progress f) in
     search (needs, u, length-drop (l .loop .at) xs)
 
 loop-less : tie.Need-loop-less Inv-loop μ-loop
@@ -68,7 +68,7 @@ loop-less c =
     let l = f .before .before .before in
     let xs = l .before .before .args .input .now in
     let rest = drop (l .loop .at) xs in
-    let u = fed-used (l .loop .replay) rest (f .feed .result) (fed f) in
+    let u = progress-used (l .loop .stream) rest (f .feed .result) (progress f) in
     omega (arith, u .0, u .1, length-drop (l .loop .at) xs)
 
 loop-again : tie.Need-loop-again Inv-loop μ-loop
@@ -77,17 +77,17 @@ loop-again c =
     let l = f .before .before .before in
     let xs = l .before .before .args .input .now in
     let rest = drop (l .loop .at) xs in
-    let u = fed-used (l .loop .replay) rest (f .feed .result) (fed f) in (
+    let u = progress-used (l .loop .stream) rest (f .feed .result) (progress f) in (
       omega (arith, u .0, length-drop (l .loop .at) xs),
-      l .loop .inv .1 ∙ fed-step (l .loop .replay) rest (f .feed .result) (fed f) ∙ ap (after (f .feed .result .replay)) (drop-drop (f .feed .result .used) (l .loop .at) xs),
-      reached-more (l .before .before .args .given) (l .loop .replay) (f .feed .result .replay) _ (l .loop .inv .2) (fed-carried (l .loop .replay) rest (f .feed .result) (fed f)),
+      l .loop .inv .1 ∙ progress-step (l .loop .stream) rest (f .feed .result) (progress f) ∙ ap (streamAfter (f .feed .result .stream)) (drop-drop (f .feed .result .used) (l .loop .at) xs),
+      reached-more (l .before .before .args .given) (l .loop .stream) (f .feed .result .stream) _ (l .loop .inv .2) (progress-carried (l .loop .stream) rest (f .feed .result) (progress f)),
     )
 
 returns-2 : tie.Need-returns-2 Inv-loop μ-loop
 returns-2 c =
     let l = c .before in
     let xs = l .before .before .args .input .now in
-    (λ e. sym (l .loop .inv .1 ∙ ap (after (l .loop .replay)) (drop-of-length-le xs {i = l .loop .at} (omega arith)) ∙ nothing-carried (l .loop .replay) [] (omega arith)), l .loop .inv .2)
+    (λ e. sym (l .loop .inv .1 ∙ ap (streamAfter (l .loop .stream)) (drop-of-length-le xs {i = l .loop .at} (omega arith)) ∙ nothing-carried (l .loop .stream) [] (omega arith)), l .loop .inv .2)
 
 pub piece-spec : {M : Type 1} → statement M
 piece-spec =

@@ -4,7 +4,7 @@ use Rattle.program.proofs.read_all.Statement.{statement}
 use Rattle.program.proofs.read_all.Tie as tie
 
 abbrev Inv-loop : tie.InvT-loop
-Inv-loop now₀ turns₀ now turns = Reached (now₀ .replay) (now .replay)
+Inv-loop now₀ turns₀ now turns = Reached (now₀ .stream) (now .stream)
 
 abbrev μ-loop : tie.MeasureT-loop
 μ-loop now₀ turns₀ now turns = turns
@@ -25,7 +25,7 @@ loop-again : tie.Need-loop-again Inv-loop μ-loop
 loop-again c =
     let l = c .before .before .before .before in
     let e = c .read-piece .ensures in
-    reached-more (l .before .args .given) (l .loop .now .replay) (c .read-piece .result .replay) (e .0) (l .loop .inv) (e .1)
+    reached-more (l .before .args .given) (l .loop .now .stream) (c .read-piece .result .stream) (e .0) (l .loop .inv) (e .1)
 
 returns : tie.Need-returns Inv-loop μ-loop
 returns c = c .before .before .loop .inv

@@ -47,8 +47,8 @@ grid-is c =
 step-is : (c : tie.After-pulse-step Inv-loop μ-loop) → (0 < c .pulse-step .result) × (c .pulse-step .result < 2 ^ 32)
 step-is c =
     let d = c .before .before .args .d in
-    let lag : d .lag < 2 ^ 32 = search needs in
-    rw (c .pulse-step .ensures) (cond-elim (d .train) (max (d .lag) 1) 60 (λ n. (0 < n) × (n < 2 ^ 32)) (λ t. omega arith) (λ t. omega arith))
+    let lag : d .«base_lag» < 2 ^ 32 = search needs in
+    rw (c .pulse-step .ensures) (cond-elim (d .train) (max (d .«base_lag») 1) 60 (λ n. (0 < n) × (n < 2 ^ 32)) (λ t. omega arith) (λ t. omega arith))
 
 -- the size as the code has it, and a pulse of it
 module _ (c : tie.After-doubled-gain Inv-loop μ-loop) where

@@ -15,7 +15,7 @@ use Rattle.pulses.proofs.doubled_gain.Tie as tie
 -- the gain as it is read, and widened
 module _ (c : tie.After-fixed-codebook-gain) where
   abbrev g : ℕ
-  g = getD gains (c .before .args .gain) 0
+  g = getD gains (c .before .args .index) 0
 
   abbrev narrow : ℕ
   narrow = ofZ w16 (c .fixed-codebook-gain .result)

@@ -5,7 +5,7 @@ use lib.Dec.{eqb}
 use Rattle.excitation.specs.declared.Rate.the-variants.{High}
 use Rattle.reader.specs.Fields.{byte}
 use Rattle.layout.specs.Layout.{blockPlace}
-use Rattle.layout.proofs.Places.{place-bound}
+use Rattle.layout.proofs.Places.{block-place-bound}
 use Rattle.record.proofs.pulse_description.Statement.{statement}
 use Rattle.record.proofs.pulse_description.Tie as tie
 
@@ -13,7 +13,7 @@ block-place-requires : tie.Need-block-place-requires
 block-place-requires c κs = tt
 
 place-small : (c : tie.After-block-place) → c .block-place .result ≤ 418
-place-small c = omega (arith, c .block-place .ensures, place-bound High (c .before .before .args .s))
+place-small c = omega (arith, c .block-place .ensures, block-place-bound High (c .before .before .args .s))
 
 add-byte-at : tie.Need-add-byte-at
 add-byte-at c = omega (arith, place-small c)
@@ -63,11 +63,11 @@ returns c =
     record {
       count = g .before .pulse-count .ensures i;
       train = eqb (flags i / 2 % 2) 1;
-      lag = g .base-lag .ensures i;
+      «base_lag» = g .base-lag .ensures i;
       grid = eqb (flags i % 2) 1;
       code = (code ∙ (λ j. byte r (p j + 13) * 65536 + byte r (middle j) * 256 + byte r (low j))) i;
       signs = (c .before .byte-at2 .ensures ∙ (λ j. byte r (p j + 12))) i;
-      gain = (c .byte-at3 .ensures ∙ (λ j. byte r (p j + 10))) i;
+      «gain_index» = (c .byte-at3 .ensures ∙ (λ j. byte r (p j + 10))) i;
     }
 
 pub pulse-description-spec : {M : Type 1} → statement M

@@ -6,7 +6,7 @@ use mir.Syntax.{w32}
 use Rattle.integers.specs.Signed.{back}
 use Rattle.reader.specs.Fields.{byte}
 use Rattle.record.specs.Record.{words, blockOf}
-use Rattle.layout.proofs.Places.{place-bound}
+use Rattle.layout.proofs.Places.{block-place-bound}
 use Rattle.record.proofs.read_block.Statement.{statement}
 use Rattle.record.proofs.read_block.Tie as tie
 
@@ -20,7 +20,7 @@ own-lag-requires : tie.Need-own-lag-requires
 own-lag-requires c κs = tt
 
 place-small : (c : tie.After-block-place) → c .block-place .result ≤ 418
-place-small c = let a = c .before .before .args in omega (arith, c .block-place .ensures, place-bound (a .rate) (a .s))
+place-small c = let a = c .before .before .args in omega (arith, c .block-place .ensures, block-place-bound (a .rate) (a .s))
 
 taps-at-requires : tie.Need-taps-at-requires
 taps-at-requires c κs = omega (arith, place-small (c .before .before))
@@ -49,7 +49,7 @@ returns c =
       «base_lag» = back w32 {r = pos (b .base-lag .result)} (omega arith) (ap pos (b .base-lag .ensures)) i;
       lag = back w32 (t .before .own-lag .ok) (t .before .own-lag .ensures) i;
       taps = (t .taps-at .ensures ∙ (λ j. words r (p .ensures j) 5)) i;
-      gain = (c .before .byte-at .ensures ∙ (λ j. byte r (p .ensures j + 10))) i;
+      «gain_index» = (c .before .byte-at .ensures ∙ (λ j. byte r (p .ensures j + 10))) i;
       fixed = c .fixed-vector .ensures i;
     }
 

@@ -7,18 +7,24 @@ use lib.Dec.{ltb, eqb}
 use lib.ListN.{length}
 use Rattle.excitation.specs.declared.Rate.the-variants.{High}
 use Rattle.reader.specs.Fields.{byte}
-use Rattle.numbers.specs.declared.Refusal.the-variants.{Length}
+use Rattle.tables.specs.Constants.{kindMax}
+use Rattle.numbers.specs.declared.Refusal.the-variants.{NoByte, Kind, Length}
 use Rattle.refusals.specs.declared.Found.{Found}
-use Rattle.refusals.specs.declared.Found.the-variants.{Refused}
-use Rattle.refusals.specs.Refusals.{wrongLength, bytesOf, foundReceived, foundOf, found}
+use Rattle.refusals.specs.declared.Found.the-variants.{Erased, Refused}
+use Rattle.refusals.specs.Refusals.{wrongLength, recordBytes, foundReceived, foundOf, found}
 use Rattle.integers.specs.Truth.{cond-here, cond-there}
 use Rattle.refusals.proofs.Arms.{from-two}
+use Rattle.refusals.proofs.Kinds.{promised}
 use Rattle.refusals.proofs.examine.Statement.{statement}
 use Rattle.refusals.proofs.examine.Tie as tie
 
-returns : tie.Need-returns
+-- number 3
+none : (c : tie.Then1) → let s = c .before .before .args .«record» .now in Refused NoByte ≡ found s
 unfolding found
-returns c = cond-here _ _ refl (eq-eqb (length (c .before .before .args .«record» .now)) 0 (c .if1 .taken))
+none c = cond-here _ _ refl (eq-eqb (length (c .before .before .args .«record» .now)) 0 (c .if1 .taken))
+
+returns : tie.Need-returns
+returns c = promised (c .before .before .args .«record» .now) (none c)
 
 byte-at-requires : tie.Need-byte-at-requires
 byte-at-requires c κs = tt
@@ -26,12 +32,16 @@ byte-at-requires c κs = tt
 abbrev r : tie.After-byte-at → List ℕ
 r c = c .before .before .before .args .«record» .now
 
-returns-2 : tie.Need-returns-2
+-- number 4
+unknown : (c : tie.Then2) → Refused Kind ≡ found (r (c .before))
 unfolding found
-returns-2 c =
+unknown c =
     let k = c .before in
     cond-there _ refl (ne-eqb (length (r k)) 0 (k .before .if1 .left))
-    (cond-here _ _ (ap (ltb 2) (k .byte-at .ensures)) (lt-ltb 2 (k .byte-at .result) (c .if2 .taken)))
+    (cond-here _ _ (ap (ltb kindMax) (k .byte-at .ensures)) (lt-ltb kindMax (k .byte-at .result) (c .if2 .taken)))
+
+returns-2 : tie.Need-returns-2
+returns-2 c = promised (r (c .before)) (unknown c)
 
 record-bytes-requires : tie.Need-record-bytes-requires
 record-bytes-requires c κs = tt
@@ -43,19 +53,19 @@ unfolding found
 past-kind c h =
     let k = c .before in
     cond-there _ refl (ne-eqb (length (r k)) 0 (k .before .if1 .left))
-    (cond-there _ (ap (ltb 2) (k .byte-at .ensures)) (le-ltb 2 (k .byte-at .result) (c .if2 .left)) h)
+    (cond-there _ (ap (ltb kindMax) (k .byte-at .ensures)) (le-ltb kindMax (k .byte-at .result) (c .if2 .left)) h)
 
 length-test : (c : tie.After-record-bytes) → let s = r (c .before .before) in
     not (eqb (length s) (c .record-bytes .result)) ≡ wrongLength s
 length-test c =
     let k = c .before .before in
-    ap (λ (n : ℕ). not (eqb (length (r k)) n)) (c .record-bytes .ensures ∙ ap bytesOf (k .byte-at .ensures))
+    ap (λ (n : ℕ). not (eqb (length (r k)) n)) (c .record-bytes .ensures ∙ ap recordBytes (k .byte-at .ensures))
 
 returns-3 : tie.Need-returns-3
 returns-3 c =
     let b = c .before in
     let h = ne-eqb (length (r (b .before .before))) (b .record-bytes .result) (c .if3 .taken) in
-    past-kind (b .before) (cond-here _ _ (length-test b) (ap not h))
+    promised (r (b .before .before)) (past-kind (b .before) (cond-here _ _ (length-test b) (ap not h)))
 
 -- nor does number 5
 of-kind : (c : tie.Else3) {n : ℕ} → let k = c .before .before .before in
@@ -76,24 +86,29 @@ received-found-requires c κs = tt
 received-found-requires-2 : tie.Need-received-found-requires-2
 received-found-requires-2 c κs = tt
 
-returns-4 : tie.Need-returns-4
+-- by its kind
+erased-found : (c : tie.Arm1) → let k = c .before .before .before .before in Erased ≡ found (r k)
 unfolding foundOf
-returns-4 c = of-kind (c .before) (c .match .keys1)
+erased-found c = of-kind (c .before) (c .match .keys1)
+
+returns-4 : tie.Need-returns-4
+returns-4 c = promised (r (c .before .before .before .before)) (erased-found c)
 
 returns-5 : tie.Need-returns-5
 unfolding foundOf
 returns-5 c =
     let m = c .before .before in
     let k = m .before .before .before .before in
-    c .received-found .ensures ∙ ap (foundReceived High (r k)) (c .before .high-found .ensures)
-    ∙ of-kind (m .before) (m .match .keys2)
+    promised (r k) (c .received-found .ensures ∙ ap (foundReceived High (r k)) (c .before .high-found .ensures)
+    ∙ of-kind (m .before) (m .match .keys2))
 
 returns-6 : tie.Need-returns-6
 unfolding foundOf
 returns-6 c =
     let m = c .before in
-    let k = m .before .before .before .before .byte-at .result in
-    c .received-found2 .ensures ∙ of-kind (m .before) (from-two k (m .match .rest .0 .1) (m .match .rest .1) .1)
+    let k = m .before .before .before .before in
+    promised (r k) (c .received-found2 .ensures
+    ∙ of-kind (m .before) (from-two (k .byte-at .result) (m .match .rest .0 .1) (m .match .rest .1) .1))
 
 pub examine-spec : {M : Type 1} → statement M
 examine-spec =

@@ -12,7 +12,7 @@ use Rattle.integers.specs.Expression.{is-mag, is-lit, is-add, is-le, need-add}
 use Rattle.excitation.specs.declared.Rate.the-variants.{High}
 use Rattle.reader.specs.Fields.{byte}
 use Rattle.record.specs.Record.{flags}
-use Rattle.layout.proofs.Places.{place-bound}
+use Rattle.layout.proofs.Places.{block-place-bound}
 use Rattle.integers.specs.Truth.{or-here, or-there, and-here, and-there}
 use Rattle.refusals.proofs.flags_wrong.Statement.{statement}
 use Rattle.refusals.proofs.flags_wrong.Tie as tie
@@ -21,7 +21,7 @@ block-place-requires : tie.Need-block-place-requires
 block-place-requires c κs = tt
 
 add-byte-at : tie.Need-add-byte-at
-add-byte-at c = omega (arith, c .block-place .ensures, place-bound High (c .before .before .args .s))
+add-byte-at c = omega (arith, c .block-place .ensures, block-place-bound High (c .before .before .args .s))
 
 byte-at-requires : tie.Need-byte-at-requires
 byte-at-requires c κs = tt

@@ -4,7 +4,7 @@ use native.Mathlib.Omega.{arith}
 use lib.Dec.{ltb}
 use Rattle.tables.specs.Constants.{gainIndexMax}
 use Rattle.reader.specs.Fields.{byte}
-use Rattle.layout.proofs.Places.{place-bound}
+use Rattle.layout.proofs.Places.{block-place-bound}
 use Rattle.refusals.proofs.gain_above.Statement.{statement}
 use Rattle.refusals.proofs.gain_above.Tie as tie
 
@@ -12,7 +12,7 @@ block-place-requires : tie.Need-block-place-requires
 block-place-requires c κs = tt
 
 add-byte-at : tie.Need-add-byte-at
-add-byte-at c = let a = c .before .before .args in omega (arith, c .block-place .ensures, place-bound (a .rate) (a .s))
+add-byte-at c = let a = c .before .before .args in omega (arith, c .block-place .ensures, block-place-bound (a .rate) (a .s))
 
 byte-at-requires : tie.Need-byte-at-requires
 byte-at-requires c κs = tt

@@ -1,17 +1,17 @@
 use mathlib.Core.Path.{sym, ap}
-use Rattle.refusals.specs.Refusals.{bytesOf}
+use Rattle.refusals.specs.Refusals.{recordBytes}
 use Rattle.refusals.proofs.Arms.{from-two}
 use Rattle.refusals.proofs.record_bytes.Statement.{statement}
 use Rattle.refusals.proofs.record_bytes.Tie as tie
 
 returns : tie.Need-returns
-returns c = sym (ap bytesOf (c .match .keys1))
+returns c = sym (ap recordBytes (c .match .keys1))
 
 returns-2 : tie.Need-returns-2
-returns-2 c = sym (ap bytesOf (c .match .keys2))
+returns-2 c = sym (ap recordBytes (c .match .keys2))
 
 returns-3 : tie.Need-returns-3
-returns-3 c = sym (ap bytesOf (from-two (c .before .args .kind) (c .match .rest .0 .1) (c .match .rest .1) .1))
+returns-3 c = sym (ap recordBytes (from-two (c .before .args .kind) (c .match .rest .0 .1) (c .match .rest .1) .1))
 
 pub record-bytes-spec : {M : Type 1} → statement M
 record-bytes-spec = tie.close (tie.spec returns returns-2 returns-3)

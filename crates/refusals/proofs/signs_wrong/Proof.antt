@@ -9,7 +9,7 @@ use Rattle.excitation.specs.declared.Subframe.{Subframe}
 use Rattle.excitation.specs.declared.Rate.the-variants.{High}
 use Rattle.reader.specs.Fields.{byte}
 use Rattle.record.specs.Record.{signs, count}
-use Rattle.layout.proofs.Places.{place-bound}
+use Rattle.layout.proofs.Places.{block-place-bound}
 use Rattle.refusals.specs.Refusals.{wrongSignsIn}
 use Rattle.refusals.proofs.signs_wrong.Statement.{statement}
 use Rattle.refusals.proofs.signs_wrong.Tie as tie
@@ -18,7 +18,7 @@ block-place-requires : tie.Need-block-place-requires
 block-place-requires c κs = tt
 
 add-byte-at : tie.Need-add-byte-at
-add-byte-at c = omega (arith, c .block-place .ensures, place-bound High (c .before .before .args .s))
+add-byte-at c = omega (arith, c .block-place .ensures, block-place-bound High (c .before .before .args .s))
 
 byte-at-requires : tie.Need-byte-at-requires
 byte-at-requires c κs = tt

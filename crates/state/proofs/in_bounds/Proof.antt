@@ -3,8 +3,8 @@ use mathlib.Core.Bool.{_&&_}
 use mathlib.Core.Logic.{⊎-elim}
 use borrow.Author.Needs.{needs}
 use Rattle.state.specs.declared.State.{State}
-use Rattle.state.specs.State.{areWords, numbersInBounds, inBounds}
-use Rattle.state.proofs.Bounds.{isHistory, isMemory}
+use Rattle.state.specs.State.{areWords, inBounds}
+use Rattle.state.proofs.Bounds.{isHistory, isMemory, areNumbers}
 use Rattle.integers.specs.Truth.{and-regroup, and-here, and-there}
 use Rattle.state.proofs.in_bounds.Statement.{statement}
 use Rattle.state.proofs.in_bounds.Tie as tie
@@ -46,21 +46,21 @@ lists c =
     w .3 ∙ memory record { before = m; are-words2 = w .2 } ∙ and-there {a = isHistory s} {b = isMemory s} refl (t ∙ w .0 .taken) refl)
     (λ w. w .1 ∙ w .0 .left ∙ sym (t ∙ w .0 .left) ∙ and-here {a = isHistory s} (isMemory s) refl (t ∙ w .0 .left)) (c .if1 .came)
 
-regrouped : (s : State) → ((isHistory s && isMemory s) && numbersInBounds s) ≡ inBounds s
+regrouped : (s : State) → ((isHistory s && isMemory s) && areNumbers s) ≡ inBounds s
 unfolding inBounds
-regrouped s = and-regroup (isHistory s) (isMemory s) (numbersInBounds s)
+regrouped s = and-regroup (isHistory s) (isMemory s) (areNumbers s)
 
 returns : tie.Need-returns
 returns c =
     let s = state (c .before .before .before) in
     let t = sym (lists (c .before .before)) ∙ c .before .if2 .taken in
-    c .numbers-in-bounds .ensures ∙ and-there {a = isHistory s && isMemory s} {b = numbersInBounds s} refl t refl ∙ regrouped s
+    c .numbers-in-bounds .ensures ∙ and-there {a = isHistory s && isMemory s} {b = areNumbers s} refl t refl ∙ regrouped s
 
 returns-2 : tie.Need-returns-2
 returns-2 c =
     let s = state (c .before .before) in
     let t = sym (lists (c .before)) ∙ c .if2 .left in
-    c .if2 .left ∙ sym t ∙ and-here {a = isHistory s && isMemory s} (numbersInBounds s) refl t ∙ regrouped s
+    c .if2 .left ∙ sym t ∙ and-here {a = isHistory s && isMemory s} (areNumbers s) refl t ∙ regrouped s
 
 pub in-bounds-spec : {M : Type 1} → statement M
 in-bounds-spec =

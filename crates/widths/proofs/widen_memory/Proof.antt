@@ -11,10 +11,10 @@ use Rattle.widths.proofs.widen_memory.Statement.{statement}
 use Rattle.widths.proofs.widen_memory.Tie as tie
 
 abbrev Inv-loop : tie.InvT-loop
-Inv-loop mem m₀ i₀ m i = Fills (entry mem) 10 m i
+Inv-loop mem m₀ j₀ m j = Fills (entry mem) 10 m j
 
 abbrev μ-loop : tie.MeasureT-loop
-μ-loop mem m₀ i₀ m i = 10 - i
+μ-loop mem m₀ j₀ m j = 10 - j
 
 fit : (s : tie.Start Inv-loop μ-loop) → AllFit w16 (s .args .t1)
 fit s = all-fit 10 (s .good .0)
@@ -29,7 +29,7 @@ array-copy-out-m : tie.Need-array-copy-out-m Inv-loop μ-loop
 array-copy-out-m c = omega arith
 
 cast-m : tie.Need-cast-m Inv-loop μ-loop
-cast-m c = let l = c .before .before in let f = fit (l .before) .at (l .loop .i) in need-cast (is-arg f) (widen f tt)
+cast-m c = let l = c .before .before in let f = fit (l .before) .at (l .loop .j) in need-cast (is-arg f) (widen f tt)
 
 mul-m-2 : tie.Need-mul-m-2 Inv-loop μ-loop
 mul-m-2 c = omega arith
@@ -37,8 +37,8 @@ mul-m-2 c = omega arith
 array-set-from-m : tie.Need-array-set-from-m Inv-loop μ-loop
 array-set-from-m c = omega arith
 
-add-i : tie.Need-add-i Inv-loop μ-loop
-add-i c = omega arith
+add-j : tie.Need-add-j Inv-loop μ-loop
+add-j c = omega arith
 
 loop-less : tie.Need-loop-less Inv-loop μ-loop
 loop-less c = omega arith
@@ -46,7 +46,7 @@ loop-less c = omega arith
 loop-again : tie.Need-loop-again Inv-loop μ-loop
 loop-again c =
     let l = c .before .before in
-    let f = fit (l .before) .at (l .loop .i) in
+    let f = fit (l .before) .at (l .loop .j) in
     fills-next (l .loop .inv) (omega arith) (is-cast (is-arg f) (widen f tt) .is)
 
 returns : tie.Need-returns Inv-loop μ-loop
@@ -66,7 +66,7 @@ widen-memory-spec =
     cast-m
     mul-m-2
     array-set-from-m
-    add-i
+    add-j
     loop-less
     loop-again
     returns)

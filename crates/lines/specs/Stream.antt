@@ -10,9 +10,9 @@ use Rattle.counts.specs.Counts.{counted}
 use Rattle.state.specs.State.{freshState}
 use Rattle.lines.specs.Replies.{numberFor, stateFor, textFor}
 use Rattle.lines.specs.declared.Line.{Line}
-use Rattle.lines.specs.declared.Replay.{Replay}
+use Rattle.lines.specs.declared.Stream.{Stream}
 use Rattle.lines.specs.declared.Text.{Text}
-use Rattle.lines.specs.declared.Fed.{Fed}
+use Rattle.lines.specs.declared.Progress.{Progress}
 
 -- ---- a line that has not ended
 
@@ -45,40 +45,40 @@ isBegun l = ltb 0 (l .len) || l .over
 -- ---- from piece to piece
 
 -- before the first
-unfoldable pub freshReplay : Replay
-freshReplay = record {
+unfoldable pub freshStream : Stream
+freshStream = record {
   state = freshState true;
   line = blank;
   tallies = replicate 12 0;
 }
 
 -- The end of a line: what is said of it, and what is carried on.
-module _ (r : Replay) where
-  abbrev pub saidNumber : ℕ
-  saidNumber = numberFor (isRecord (r .line)) (bytesOf (characters (r .line))) (r .state)
+module _ (r : Stream) where
+  abbrev pub endNumber : ℕ
+  endNumber = numberFor (isRecord (r .line)) (bytesOf (characters (r .line))) (r .state)
 
-  unfoldable pub saidLine : List ℕ
-  saidLine = textFor (isRecord (r .line)) (bytesOf (characters (r .line))) (r .state)
+  unfoldable pub endText : List ℕ
+  endText = textFor (isRecord (r .line)) (bytesOf (characters (r .line))) (r .state)
 
-  unfoldable pub nextLine : Replay
+  unfoldable pub nextLine : Stream
   nextLine = record {
     state = stateFor (isRecord (r .line)) (bytesOf (characters (r .line))) (r .state);
     line = blank;
-    tallies = counted (r .tallies) saidNumber;
+    tallies = counted (r .tallies) endNumber;
   }
 
 -- one byte
-unfoldable pub withByte : Replay → ℕ → Replay
+unfoldable pub withByte : Stream → ℕ → Stream
 withByte r b = cond (eqb b 10) (nextLine r) (record { state = r .state; line = pushed (r .line) b; tallies = r .tallies })
 
 -- the bytes xs: what is carried after them, and what is said to them
-unfoldable pub after : Replay → List ℕ → Replay
-after r [] = r
-after r (b ∷ xs) = after (withByte r b) xs
+unfoldable pub streamAfter : Stream → List ℕ → Stream
+streamAfter r [] = r
+streamAfter r (b ∷ xs) = streamAfter (withByte r b) xs
 
-unfoldable pub said : Replay → List ℕ → List ℕ
-said r [] = []
-said r (b ∷ xs) = cond (eqb b 10) (saidLine r) [] ++ said (withByte r b) xs
+unfoldable pub answersFrom : Stream → List ℕ → List ℕ
+answersFrom r [] = []
+answersFrom r (b ∷ xs) = cond (eqb b 10) (endText r) [] ++ answersFrom (withByte r b) xs
 
 -- ---- what the functions answer
 
@@ -92,15 +92,15 @@ toNewline [] = []
 toNewline (b ∷ xs) = b ∷ cond (eqb b 10) [] (toNewline xs)
 
 -- the end of a line
-unfoldable pub endedOf : Replay → Fed
-endedOf r = record { replay = nextLine r; text = textOf (saidLine r); used = 0 }
+unfoldable pub endedOf : Stream → Progress
+endedOf r = record { stream = nextLine r; text = textOf (endText r); used = 0 }
 
 -- `feed`: a call takes the end of one line at most
-unfoldable pub fedOf : Replay → List ℕ → Fed
-fedOf r xs =
+unfoldable pub progressOf : Stream → List ℕ → Progress
+progressOf r xs =
     let piece = toNewline xs in
-    record { replay = after r piece; text = textOf (said r piece); used = length piece }
+    record { stream = streamAfter r piece; text = textOf (answersFrom r piece); used = length piece }
 
 -- `finish`: the line that no newline ended, if there is anything of it
-unfoldable pub finished : Replay → Fed
-finished r = cond (isBegun (r .line)) (endedOf r) (record { replay = r; text = textOf []; used = 0 })
+unfoldable pub finished : Stream → Progress
+finished r = cond (isBegun (r .line)) (endedOf r) (record { stream = r; text = textOf []; used = 0 })
