@@ -10,7 +10,7 @@ use Rattle.tables.specs.Constants.{lagAPlace, lagBPlace, step1Place, step3Place
 use Rattle.excitation.specs.declared.Rate.{Rate}
 use Rattle.excitation.specs.declared.Rate.the-variants as rates
 use Rattle.positions.specs.Positions.{pulses}
-use Rattle.pulses.specs.Pulses.{Accepted}
+use Rattle.vectors.specs.Vectors.{Accepted}
 use Rattle.excitation.specs.declared.Subframe.{Subframe}
 use Rattle.excitation.specs.declared.Subframe.the-variants.{Zero, One, Two, Three}
 use Rattle.reader.specs.Fields.{byte}

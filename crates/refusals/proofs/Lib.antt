@@ -1,3 +1,3 @@
 pub mod Accepted
 pub mod Arms
-pub mod Kinds
+pub mod Promised

@@ -3,7 +3,9 @@ use Prim.Native.Nat.{_+_, _*_, _/_, _%_, _≤_}
 use native.Mathlib.Omega.{arith}
 use lib.Dec.{eqb}
 use Rattle.excitation.specs.declared.Rate.the-variants.{High}
+use Rattle.tables.specs.Constants.{gainIndexPlace, flagsPlace, signsPlace, codePlace}
 use Rattle.reader.specs.Fields.{byte}
+use Rattle.reader.specs.Fields.{code as codeAt}
 use Rattle.layout.specs.Layout.{blockPlace}
 use Rattle.layout.proofs.Places.{block-place-bound}
 use Rattle.record.proofs.pulse_description.Statement.{statement}
@@ -55,9 +57,7 @@ returns c =
     let a = f .before .before .before .args in
     let r = a .«record» .now in
     let p = f .before .block-place .ensures in
-    let flags : f .byte-at .result ≡ byte r (blockPlace High (a .s) + 11) = f .byte-at .ensures ∙ (λ i. byte r (p i + 11)) in
-    let middle : f .before .block-place .result + 13 + 1 ≡ blockPlace High (a .s) + 14 = omega (arith, p) in
-    let low : f .before .block-place .result + 13 + 2 ≡ blockPlace High (a .s) + 15 = omega (arith, p) in
+    let flags : f .byte-at .result ≡ byte r (blockPlace High (a .s) + flagsPlace) = f .byte-at .ensures ∙ (λ i. byte r (p i + flagsPlace)) in
     let code = c .before .before .code-at .ensures in
     λ i.
     record {
@@ -65,9 +65,9 @@ returns c =
       train = eqb (flags i / 2 % 2) 1;
       «base_lag» = g .base-lag .ensures i;
       grid = eqb (flags i % 2) 1;
-      code = (code ∙ (λ j. byte r (p j + 13) * 65536 + byte r (middle j) * 256 + byte r (low j))) i;
-      signs = (c .before .byte-at2 .ensures ∙ (λ j. byte r (p j + 12))) i;
-      «gain_index» = (c .byte-at3 .ensures ∙ (λ j. byte r (p j + 10))) i;
+      code = (code ∙ (λ j. codeAt r (p j + codePlace))) i;
+      signs = (c .before .byte-at2 .ensures ∙ (λ j. byte r (p j + signsPlace))) i;
+      «gain_index» = (c .byte-at3 .ensures ∙ (λ j. byte r (p j + gainIndexPlace))) i;
     }
 
 pub pulse-description-spec : {M : Type 1} → statement M

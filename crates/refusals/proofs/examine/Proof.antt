@@ -10,11 +10,11 @@ use Rattle.reader.specs.Fields.{byte}
 use Rattle.tables.specs.Constants.{kindMax}
 use Rattle.numbers.specs.declared.Refusal.the-variants.{NoByte, Kind, Length}
 use Rattle.refusals.specs.declared.Found.{Found}
-use Rattle.refusals.specs.declared.Found.the-variants.{Erased, Refused}
+use Rattle.refusals.specs.declared.Found.the-variants.{Refused}
 use Rattle.refusals.specs.Refusals.{wrongLength, recordBytes, foundReceived, foundOf, found}
 use Rattle.integers.specs.Truth.{cond-here, cond-there}
 use Rattle.refusals.proofs.Arms.{from-two}
-use Rattle.refusals.proofs.Kinds.{promised}
+use Rattle.refusals.proofs.Promised.{promised}
 use Rattle.refusals.proofs.examine.Statement.{statement}
 use Rattle.refusals.proofs.examine.Tie as tie
 
@@ -86,13 +86,9 @@ received-found-requires c κs = tt
 received-found-requires-2 : tie.Need-received-found-requires-2
 received-found-requires-2 c κs = tt
 
--- by its kind
-erased-found : (c : tie.Arm1) → let k = c .before .before .before .before in Erased ≡ found (r k)
-unfolding foundOf
-erased-found c = of-kind (c .before) (c .match .keys1)
-
 returns-4 : tie.Need-returns-4
-returns-4 c = promised (r (c .before .before .before .before)) (erased-found c)
+unfolding foundOf
+returns-4 c = promised (r (c .before .before .before .before)) (of-kind (c .before) (c .match .keys1))
 
 returns-5 : tie.Need-returns-5
 unfolding foundOf

@@ -17,12 +17,13 @@ use Rattle.tables.specs.Rules.{gain-rule, gain-distinct}
 use Rattle.positions.specs.Positions.{pulses, limit, slots}
 use Rattle.positions.specs.declared.Count.{Count}
 use Rattle.positions.specs.declared.Count.the-variants.{Five, Six}
-use Rattle.pulses.specs.Pulses.{size, pulsePlace, signedBy, pulse, sample, vector, WithSlots, SameGiven, SameRest, SameSigns, EqualVectors, AtMostOne}
+use Rattle.pulses.specs.Pulses.{size, pulsePlace, signedBy, pulse, sample, vector}
+use Rattle.vectors.specs.Vectors.{WithSlots, SameGiven, SameRest, SameSigns, EqualVectors, AtMostOne}
 use Rattle.pulses.specs.declared.Description.{Description}
 use Rattle.pulses.proofs.Walks.{slots-length, slots-code, pulse-place-below, pulse-place-order}
 use Rattle.pulses.proofs.Sizes.{abs-pulse}
-use Rattle.pulses.proofs.Distinct.{sumAt, Row, rows-equal}
-use Rattle.pulses.proofs.Trains.{bare-same, sample-same}
+use Rattle.vectors.proofs.Distinct.{sumAt, Row, rows-equal}
+use Rattle.vectors.proofs.Trains.{bare-same, sample-same}
 
 -- ---- a place gives its slot and the grid
 

@@ -13,10 +13,11 @@ use Rattle.integers.specs.Linear.{line, line-add, add-cancel}
 use Rattle.integers.specs.Natural.{le-or-lt}
 use Rattle.tables.specs.Constants.{subframeSize}
 use Rattle.positions.specs.Positions.{pulses, limit}
-use Rattle.pulses.specs.Pulses.{pulsePlace, pulse, repeats, period, reaches, term, sample, WithSlots, SameGiven, SameRest}
+use Rattle.pulses.specs.Pulses.{pulsePlace, pulse, repeats, period, reaches, term, sample}
+use Rattle.vectors.specs.Vectors.{WithSlots, SameGiven, SameRest}
 use Rattle.pulses.specs.declared.Description.{Description}
-use Rattle.pulses.proofs.Distinct.{sumAt}
+use Rattle.vectors.proofs.Distinct.{sumAt}
 use Rattle.pulses.proofs.Repeats.{repeats-earlier, repeats-here, repeats-between}
 
 -- ---- one pulse at p, repeated every m samples
 
