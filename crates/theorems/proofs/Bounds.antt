@@ -19,7 +19,7 @@ use Rattle.voicing.specs.Voicing.{voicingOf}
 use Rattle.reader.specs.Fields.{byte}
 use Rattle.record.specs.Record.{blockOf}
 use Rattle.refusals.specs.Refusals.{found}
-use Rattle.refusals.proofs.Accepted.{codes-high, codes-low}
+use Rattle.theorems.proofs.Accepted.{codes-high, codes-low}
 use Rattle.numbers.specs.declared.Refusal.the-variants.{SampleLength, StateBounds}
 use Rattle.refusals.specs.declared.Found.{Found}
 use Rattle.refusals.specs.declared.Found.the-variants.{Erased, High, Low, Refused}
