@@ -1,4 +1,4 @@
-pub mod Values
 pub mod Steps
 pub mod Bounds
+pub mod Values
 pub mod Lent
