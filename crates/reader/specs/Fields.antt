@@ -1,4 +1,4 @@
--- Bytes and 16-bit values of a record (document 01, "The record"). r is its bytes; past its end they read as 0.
+-- The fields of a record by their width (document 01, "The record"): big-endian, 16-bit values in two's complement. r is the record's bytes; past its end they read as 0.
 use mathlib.Core.Bool.{cond}
 use mathlib.Core.List.{List}
 use Prim.Native.Nat.{ℕ, _+_, _*_}
@@ -14,6 +14,10 @@ byte r i = getD r i 0
 abbrev pub twosComplement : ℕ → ℤ
 twosComplement n = cond (ltb n 32768) (pos n) (pos n -ℤ pos 65536)
 
--- the 16-bit value that starts at place i, big-endian
+-- the 16-bit value that starts at place i
 abbrev pub word : List ℕ → ℕ → ℤ
 word r i = twosComplement (byte r i * 256 + byte r (i + 1))
+
+-- the 24-bit position code that starts at place i
+abbrev pub code : List ℕ → ℕ → ℕ
+code r i = byte r i * 65536 + byte r (i + 1) * 256 + byte r (i + 2)
