@@ -4,7 +4,7 @@ use mathlib.Core.Bool.{true}
 use mathlib.Core.List.{[], _∷_}
 use lib.IntN.{pos}
 use Rattle.integers.specs.Base.{saturated}
-use Rattle.stability.specs.Stability.{passTo, anyTo, pass, passes, stabilised}
+use Rattle.stability.specs.Stability.{passTo, anyTo, passes, stabilised}
 
 -- LSPs 1000, 1100, 2000, …, 9000 at minimum 256: the first two move, and they pass
 pub stabilised-1000-1100 :
@@ -15,10 +15,3 @@ pub stabilised-1000-1100 :
     }
 unfolding saturated passTo anyTo passes
 stabilised-1000-1100 = refl
-
--- pairs are taken from low to high: the first moves the second LSP, which the second pair then has
-pub pass-1000-1100-1150 :
-    pass (pos 256) (pos 1000 ∷ pos 1100 ∷ pos 1150 ∷ pos 3000 ∷ pos 4000 ∷ pos 5000 ∷ pos 6000 ∷ pos 7000 ∷ pos 8000 ∷ pos 9000 ∷ [])
-    ≡ pos 922 ∷ pos 1036 ∷ pos 1292 ∷ pos 3000 ∷ pos 4000 ∷ pos 5000 ∷ pos 6000 ∷ pos 7000 ∷ pos 8000 ∷ pos 9000 ∷ []
-unfolding saturated passTo
-pass-1000-1100-1150 = refl

@@ -71,10 +71,10 @@ none c = cond-here _ _ refl (eq-eqb (length (c .before .before .args .«record»
 returns : tie.Need-returns
 returns c = promised (c .before .before .args .«record» .now) (none c)
 
-byte-at-requires : tie.Need-byte-at-requires
-byte-at-requires c κs = tt
+byte-field-requires : tie.Need-byte-field-requires
+byte-field-requires c κs = tt
 
-abbrev r : tie.After-byte-at → List ℕ
+abbrev r : tie.After-byte-field → List ℕ
 r c = c .before .before .before .args .«record» .now
 
 -- number 4
@@ -83,7 +83,7 @@ unfolding found
 unknown c =
     let k = c .before in
     cond-there _ refl (ne-eqb (length (r k)) 0 (k .before .if1 .left))
-    (cond-here _ _ (ap (ltb kindMax) (k .byte-at .ensures)) (lt-ltb kindMax (k .byte-at .result) (c .if2 .taken)))
+    (cond-here _ _ (ap (ltb kindMax) (k .byte-field .ensures)) (lt-ltb kindMax (k .byte-field .result) (c .if2 .taken)))
 
 returns-2 : tie.Need-returns-2
 returns-2 c = promised (r (c .before)) (unknown c)
@@ -98,13 +98,13 @@ unfolding found
 past-kind c h =
     let k = c .before in
     cond-there _ refl (ne-eqb (length (r k)) 0 (k .before .if1 .left))
-    (cond-there _ (ap (ltb kindMax) (k .byte-at .ensures)) (le-ltb kindMax (k .byte-at .result) (c .if2 .left)) h)
+    (cond-there _ (ap (ltb kindMax) (k .byte-field .ensures)) (le-ltb kindMax (k .byte-field .result) (c .if2 .left)) h)
 
 length-test : (c : tie.After-record-bytes) → let s = r (c .before .before) in
     not (eqb (length s) (c .record-bytes .result)) ≡ wrongLength s
 length-test c =
     let k = c .before .before in
-    ap (λ (n : ℕ). not (eqb (length (r k)) n)) (c .record-bytes .ensures ∙ ap recordBytes (k .byte-at .ensures))
+    ap (λ (n : ℕ). not (eqb (length (r k)) n)) (c .record-bytes .ensures ∙ ap recordBytes (k .byte-field .ensures))
 
 returns-3 : tie.Need-returns-3
 returns-3 c =
@@ -114,12 +114,12 @@ returns-3 c =
 
 -- nor does number 5
 of-kind : (c : tie.Else3) {n : ℕ} → let k = c .before .before .before in
-    k .byte-at .result ≡ n → foundOf n (r k) ≡ found (r k)
+    k .byte-field .result ≡ n → foundOf n (r k) ≡ found (r k)
 of-kind c e =
     let b = c .before in
     let k = b .before .before in
     let h = eq-eqb (length (r k)) (b .record-bytes .result) (c .if3 .left) in
-    ap (λ (m : ℕ). foundOf m (r k)) (sym e ∙ k .byte-at .ensures)
+    ap (λ (m : ℕ). foundOf m (r k)) (sym e ∙ k .byte-field .ensures)
     ∙ past-kind (b .before) (cond-there _ (length-test b) (ap not h) refl)
 
 high-found-requires : tie.Need-high-found-requires
@@ -149,14 +149,14 @@ returns-6 c =
     let m = c .before in
     let k = m .before .before .before .before in
     promised (r k) (c .received-found2 .ensures
-    ∙ of-kind (m .before) (from-two (k .byte-at .result) (m .match .rest .0 .1) (m .match .rest .1) .1))
+    ∙ of-kind (m .before) (from-two (k .byte-field .result) (m .match .rest .0 .1) (m .match .rest .1) .1))
 
 pub examine-spec : {M : Type 1} → statement M
 examine-spec =
     tie.close
     (tie.spec
     returns
-    byte-at-requires
+    byte-field-requires
     returns-2
     record-bytes-requires
     returns-3
