@@ -1,4 +1,4 @@
--- A frame (document 01, "Adaptive part", "Erasure" and "Frame"; the Rust's decode_params from lsp_check_or_previous on, and decode_erased): LSPs, the excitation of four subframes, then what is heard of them (crate output).
+-- A frame (document 01, "Adaptive part", "Erasure" and "Frame"; the Rust's decode_params from lsp_check_or_previous on, and decode_erased): LSPs, the excitation of four subframes, then their samples (crate output).
 use mathlib.Core.Bool.{cond}
 use mathlib.Core.List.{List, [], _∷_}
 use Prim.Native.Nat.{ℕ, _-_}

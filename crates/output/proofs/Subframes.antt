@@ -14,7 +14,7 @@ use Rattle.output.specs.Output.{synthesisOf, subframeOutput, filtersAfte
 use Rattle.output.specs.declared.Filters.{Filters}
 
 module _ (on : Bool) (a x : List ℤ) (f : Filters) where
-  -- ---- what is heard
+  -- ---- its samples
 
   pub output-off : not on ≡ true → synthesisOf on a x f ≡ subframeOutput on a x f
   unfolding subframeOutput

@@ -1,4 +1,4 @@
--- What is heard of a frame (document 01, "Synthesis", "Formant, tilt, gain" and "Frame"; the second half of the Rust's decode_params and decode_erased): for each subframe the synthesis and, with the postfilter on, formant, tilt and gain.
+-- The samples of a frame (document 01, "Synthesis", "Formant, tilt, gain" and "Frame"; the second half of the Rust's decode_params and decode_erased): for each subframe the synthesis and, with the postfilter on, formant, tilt and gain.
 use mathlib.Core.Bool.{Bool, cond}
 use mathlib.Core.List.{List, [], _++_}
 use Prim.Native.Nat.{ℕ, zero, suc}

@@ -1,4 +1,4 @@
-// What is heard of a frame, into the samples that are lent (the Rust's decode_params and decode_erased, qdec.rs).
+// The samples of a frame, into those that are lent (the Rust's decode_params and decode_erased, qdec.rs).
 ghost use mathlib.Core.Path.{_≡_};
 ghost use lib.ListN.{length};
 ghost use Rattle.postfilter.specs.Postfilter.{filtered, postfilterAfter};

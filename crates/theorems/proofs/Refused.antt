@@ -1,4 +1,4 @@
--- A refused record changes nothing, and is not heard in any sequence.
+-- A refused record changes nothing, and a sequence has the samples of its accepted records alone.
 use mathlib.Core.Path.{_≡_, refl, sym, ap, _∙_, subst}
 use mathlib.Core.Bool.{Bool, true, false, cond}
 use mathlib.Core.List.{List, [], _∷_}
@@ -29,7 +29,7 @@ refusal-keeps s i h = keeps (examined s (i .bytes) (i .samples)) s (i .bytes) (i
 
 -- ---- a sequence
 
--- xs is heard as items are, and none of it is refused
+-- xs has the samples and the last state that items have, and none of it is refused
 abbrev AnsweredAs : State → List Item → List Item → Type 0
 AnsweredAs s items xs = (acceptedSamples s xs ≡ acceptedSamples s items) × (after s xs ≡ after s items) × (length (acceptedSamples s xs) ≡ length xs)
 
@@ -43,7 +43,7 @@ module _ (s : State) (i : Item) where
   unfolding acceptedSamples
   samples-by h is = ap (λ (b : Bool). cond b (first ∷ acceptedSamples (next s i) is) (acceptedSamples (next s i) is)) h
 
-  -- the record, in front of a sequence of which xs is heard as the whole is
+  -- the record, in front of a sequence of which xs has the samples and the last state
   module _ (is xs : List Item) (k : AnsweredAs (next s i) is xs) where
     first-accepted : accepted s i ≡ true → AnsweredAs s (i ∷ is) (i ∷ xs)
     unfolding after

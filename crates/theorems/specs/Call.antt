@@ -31,7 +31,7 @@ unfoldable pub after : State → List Item → State
 after s [] = s
 after s (i ∷ is) = after (next s i) is
 
--- what is heard: 240 samples for each record that is accepted
+-- its samples: 240 for each record that is accepted
 unfoldable pub acceptedSamples : State → List Item → List (List ℤ)
 acceptedSamples s [] = []
 acceptedSamples s (i ∷ is) =

@@ -1,4 +1,4 @@
--- What was refused is not heard (document 01, demand 1; proofs/Refused.antt).
+-- What was refused leaves nothing in what follows: the samples and the last state of a sequence are those of its accepted records (document 01, demand 1; proofs/Refused.antt).
 use mathlib.Core.Path.{_≡_}
 use mathlib.Core.Bool.{false}
 use mathlib.Core.List.{List}

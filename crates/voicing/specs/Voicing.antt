@@ -1,4 +1,4 @@
--- Whether an erased frame is voiced, and at which lag (document 01, "Erasure"; the Rust's classify_erasure_voicing; §3.10.2 of G.723.1). y is the last 120 samples that were heard.
+-- Whether an erased frame is voiced, and at which lag (document 01, "Erasure"; the Rust's classify_erasure_voicing; §3.10.2 of G.723.1). y is the last 120 samples of output.
 use mathlib.Core.Bool.{Bool, cond, _&&_}
 use mathlib.Core.List.{List}
 use Prim.Native.Nat.{ℕ, zero, suc, _-_, _*_, _/_, _≤_, _<_}

@@ -25,7 +25,7 @@ narrow-memory-requires c κs = tt
 output-frame-requires : tie.Need-output-frame-requires
 output-frame-requires c κs = tt
 
--- ---- what is heard, and the memories after it
+-- ---- the samples, and the memories after them
 
 module _ (c : tie.After-output-frame) where
   abbrev memory : tie.After-narrow-memory
