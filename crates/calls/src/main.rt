@@ -21,7 +21,7 @@ struct Turn {
 }
 
 // The samples that are lent for a record, to its end.
-fn decoded(s: State, record: &[u8], samples: &mut [i16]) -> Turn {
+fn record_turn(s: State, record: &[u8], samples: &mut [i16]) -> Turn {
     let a = decoder::decode(s, record, samples);
     let v = a.verdict;
     let next = a.state;
@@ -35,9 +35,9 @@ fn decoded(s: State, record: &[u8], samples: &mut [i16]) -> Turn {
 // m bytes and n samples of those that there are.
 fn cut(s: State, bytes: &[u8], m: usize, samples: &mut [i16], n: usize) -> Turn {
     if m <= bytes.len() && n <= samples.len() {
-        return decoded(s, &bytes[0..m], &mut samples[0..n]);
+        return record_turn(s, &bytes[0..m], &mut samples[0..n]);
     }
-    decoded(s, bytes, samples)
+    record_turn(s, bytes, samples)
 }
 
 // A record, with samples that are all marked before.
