@@ -11,7 +11,7 @@ import random
 
 from places import *
 from signals import bits16, noise, periodic
-from voicing import level, ranked_otherwise, searched
+from voicing import EXACT, at_gate, level, ranked_otherwise, searched
 
 MARK = 7
 NO_TAPS = [0] * TAPS
@@ -133,6 +133,7 @@ def main():
     numbers(rng)
     narrow(rng)
     loudest()
+    narrower(rng)
 
 
 def extremes(rng):
@@ -352,6 +353,34 @@ def narrow(rng):
     # Ranks so close that their scale decides.
     for step, bits in ((60, 24), (3, 36)):
         lost(rng, *searched(rng, level(30000, step), ranked_otherwise(bits)))
+
+
+def alternating(rng, lag):
+    """A level whose sign changes from sample to sample, so that odd lags have c below 0."""
+    return [(-1) ** i * (21000 + rng.randrange(-2, 3)) for i in range(TAIL)]
+
+
+def pulses(rng, lag):
+    """A pulse, and two of one size less and more than a lag after it; small samples decide between them."""
+    tail = [rng.choice((-1, 0, 0, 0, 0, 0, 0, 1)) for _ in range(TAIL)]
+    first, size = rng.randrange(TAIL - lag - 3), rng.randrange(25000, MOST)
+    tail[first] = rng.randrange(25000, MOST)
+    tail[first + lag - rng.randrange(1, 4)] = tail[first + lag + rng.randrange(1, 4)] = size
+    return tail
+
+
+def few(*sizes):
+    """A few samples of given sizes."""
+    return lambda rng, lag: [rng.choice((-1, 1)) * rng.choice(sizes) if rng.random() < 0.08 else 0 for _ in range(TAIL)]
+
+
+def narrower(rng):
+    """Where exact quotients rank another lag first than their floors, and where 8 c² = e t, each at short and long lags."""
+    for made, lags in ((level(-27000, 4), (24, 40)), (pulses, (44, 58)), (alternating, (64, 100))):
+        lost(rng, *searched(rng, made, ranked_otherwise(EXACT), lags))
+    # The last with an e t of more than 64 bits.
+    for made, lags, least in ((few(1, 2), (24, 45), 1), (few(300, 900), (65, 85), 1), (few(30000), (30, 55), 2**64)):
+        lost(rng, *searched(rng, made, at_gate(least), lags))
 
 
 def coefficients(lsps):

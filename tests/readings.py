@@ -424,6 +424,12 @@ ERASURE = [
     ("rank-24-bits", "return (wide)c * c * (1 << 30) / ((wide)e * t);", "return (wide)c * c * (1 << 24) / ((wide)e * t);", "ranks in 2^24ths"),
     ("rank-36-bits", "return (wide)c * c * (1 << 30) / ((wide)e * t);", "return (wide)c * c * (1LL << 36) / ((wide)e * t);", "ranks in 2^36ths"),
     (
+        "rank-exact",
+        "return (wide)c * c * (1 << 30) / ((wide)e * t);",
+        "wide rest = (wide)c * c, parts = 0; for (int i = 0; i < 4; i++) { parts = parts * (1 << 30) + rest * (1 << 30) / ((wide)e * t); rest = rest * (1 << 30) % ((wide)e * t); } return parts;",
+        "ranks by quotients of 120 bits, as good as exact",
+    ),
+    (
         "rank-without-t",
         "return (wide)c * c * (1 << 30) / ((wide)e * t);",
         "return (wide)c * c * (1 << 30) / e;",

@@ -3,8 +3,8 @@ from places import LAST_BASE_LAG, LONGEST_LAG, RUN_MOST, SHORTEST_LAG, TAIL
 from signals import bits16, periodic, rails
 
 
-# Ranks are in parts of 2^30.
-RANKED = 30
+# Ranks are in parts of 2^30. In parts of 2^150 they are as good as exact: their denominators are below 2^74.
+RANKED, EXACT = 30, 150
 
 
 # ---- to choose questions by; the answers are the oracle's
@@ -30,6 +30,16 @@ def leader(pcm, centre, bits):
 def ranked_otherwise(bits):
     """Ranks in parts of 2^bits have another leader."""
     return lambda pcm, centre: leader(pcm, centre, bits) != leader(pcm, centre, RANKED)
+
+
+def at_gate(least):
+    """The leader has 8 c² = e t, and not below a least."""
+
+    def test(pcm, centre):
+        c, e, t = sums(pcm, leader(pcm, centre, RANKED) or TAIL)
+        return c > 0 and 8 * c * c == e * t >= least
+
+    return test
 
 
 def level(size, step):
