@@ -549,8 +549,8 @@ TABLES = [
     ("attenuation-order", "    24576, 18432, 13824\n", "    13824, 18432, 24576\n", "attenuation in the other order"),
     (
         "previous-4-3-2-1",
-        "    3, 2, 1, 0\n};\n\n/* Document 01, \"LSPs\": quarters of the current LSPs in each subframe. */\nstatic const int64_t CURRENT_QUARTERS[4] = {\n    1, 2, 3, 4\n",
-        "    4, 3, 2, 1\n};\n\nstatic const int64_t CURRENT_QUARTERS[4] = {\n    0, 1, 2, 3\n",
+        "    3, 2, 1, 0\n};\n\n/* Document 01, \"LSPs\": quarters of the current LSPs in each subframe. */\nstatic const int64_t CURRENT_QUARTERS[SUBFRAMES] = {\n    1, 2, 3, 4\n",
+        "    4, 3, 2, 1\n};\n\nstatic const int64_t CURRENT_QUARTERS[SUBFRAMES] = {\n    0, 1, 2, 3\n",
         "the weights of the subframe before",
     ),
 ]

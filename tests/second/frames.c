@@ -89,7 +89,7 @@ static int read_pairs(const struct line *line, unsigned char *record)
     return 1;
 }
 
-/* Prints 240 samples of four digits. */
+/* Prints the samples, four digits each. */
 static void print_samples(const int64_t *samples)
 {
     unsigned char *at = room(FRAME * 4 + 1);
