@@ -133,7 +133,8 @@ def main():
     numbers(rng)
     narrow(rng)
     loudest()
-    narrower(rng)
+    floors_decide(rng)
+    gate_decides(rng)
 
 
 def extremes(rng):
@@ -361,7 +362,7 @@ def alternating(rng, lag):
 
 
 def pulses(rng, lag):
-    """A pulse, and two of one size less and more than a lag after it; small samples decide between them."""
+    """A pulse, and two of equal size about a lag after it, so that two lags rank almost alike; small samples decide."""
     tail = [rng.choice((-1, 0, 0, 0, 0, 0, 0, 1)) for _ in range(TAIL)]
     first, size = rng.randrange(TAIL - lag - 3), rng.randrange(25000, MOST)
     tail[first] = rng.randrange(25000, MOST)
@@ -369,16 +370,19 @@ def pulses(rng, lag):
     return tail
 
 
+def floors_decide(rng):
+    """Where exact quotients rank another lag first than their floors, at short and long lags."""
+    for made, lags in ((level(-27000, 4), (24, 40)), (pulses, (44, 58)), (alternating, (64, 100))):
+        lost(rng, *searched(rng, made, ranked_otherwise(EXACT), lags))
+
+
 def few(*sizes):
     """A few samples of given sizes."""
     return lambda rng, lag: [rng.choice((-1, 1)) * rng.choice(sizes) if rng.random() < 0.08 else 0 for _ in range(TAIL)]
 
 
-def narrower(rng):
-    """Where exact quotients rank another lag first than their floors, and where 8 c² = e t, each at short and long lags."""
-    for made, lags in ((level(-27000, 4), (24, 40)), (pulses, (44, 58)), (alternating, (64, 100))):
-        lost(rng, *searched(rng, made, ranked_otherwise(EXACT), lags))
-    # The last with an e t of more than 64 bits.
+def gate_decides(rng):
+    """Where 8 c² = e t, at short and long lags, the last with products of more than 64 bits."""
     for made, lags, least in ((few(1, 2), (24, 45), 1), (few(300, 900), (65, 85), 1), (few(30000), (30, 55), 2**64)):
         lost(rng, *searched(rng, made, at_gate(least), lags))
 

@@ -2,8 +2,7 @@
 from places import LAST_BASE_LAG, LONGEST_LAG, RUN_MOST, SHORTEST_LAG, TAIL
 from signals import bits16, periodic, rails
 
-
-# Ranks are in parts of 2^30. In parts of 2^150 they are as good as exact: their denominators are below 2^74.
+# Ranks are in parts of 2^30. In parts of 2^150 their order is exact: their denominators are below 2^74.
 RANKED, EXACT = 30, 150
 
 
