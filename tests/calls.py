@@ -9,15 +9,12 @@ voicing or gain decides.
 import math
 import random
 
-from signals import LEAST, MOST, bits16, noise, periodic
-from voicing import leader
+from places import *
+from signals import bits16, noise, periodic
+from voicing import EXACT, at_gate, level, ranked_otherwise, searched
 
-MEAN = [3131, 4721, 7690, 10806, 13872, 16495, 19752, 22260, 25484, 27718]
-HIGH, LOW = 1, 2
-BLOCK = {HIGH: 16, LOW: 131}
-LIMITS = (593775, 142506, 593775, 142506)
 MARK = 7
-ERASED = [0]
+NO_TAPS = [0] * TAPS
 
 
 # ---- records
@@ -57,19 +54,19 @@ def near_mean(rng, size=500):
 
 def speech(rng, kind, lag, tap, gain, size=300):
     """A frame around a lag, with a strong middle tap or none."""
-    code = lag - 18
-    lags = (code, rng.randrange(4), min(code + rng.randrange(3), 127), rng.randrange(4))
+    code, steps = lag_code(lag), STEP_MOST + 1
+    lags = (code, rng.randrange(steps), min(code + rng.randrange(3), LAG_CODE_MOST), rng.randrange(steps))
     blocks = []
-    for s in range(4):
+    for s in range(SUBFRAMES):
         taps = [rng.randrange(-200, 200), tap // 6, tap, tap // 6, rng.randrange(-200, 200)]
-        index = min(23, max(0, gain + rng.randrange(-1, 2)))
+        index = min(GAIN_MOST, max(0, gain + rng.randrange(-1, 2)))
         if kind == HIGH:
-            train = 2 * rng.randrange(2) if lags[s // 2 * 2] + 18 < 58 else 0
-            blocks.append((taps, index, train + rng.randrange(2), rng.randrange((64, 32)[s % 2]), rng.randrange(LIMITS[s])))
+            train = TRAIN * rng.randrange(2) if lags[s // 2 * 2] < lag_code(TRAIN_LAG) else 0
+            blocks.append((taps, index, train + rng.randrange(2), rng.randrange(SIGNS_MOST[s] + 1), rng.randrange(LIMITS[s])))
         else:
-            values = [0] * 60
+            values = [0] * SUB
             for _ in range(4):
-                values[rng.randrange(60)] = rng.randrange(-size, size + 1)
+                values[rng.randrange(SUB)] = rng.randrange(-size, size + 1)
             blocks.append((taps, index, values))
     return (high if kind == HIGH else low)(near_mean(rng), lags, blocks)
 
@@ -79,13 +76,13 @@ def voiced(rng, kind=HIGH):
 
 
 def unvoiced(rng, kind=HIGH):
-    return speech(rng, kind, rng.randrange(18, 140), 600, 13)
+    return speech(rng, kind, rng.randrange(SHORTEST_LAG, 140), 600, 13)
 
 
 def silent(kind):
     if kind == HIGH:
-        return high(MEAN, (42, 1, 42, 1), [([0] * 5, 0, 0, 0, 0xFFFFFF)] * 4)
-    return low(MEAN, (42, 1, 42, 1), [([0] * 5, 0, [0] * 60)] * 4)
+        return high(MEAN, (42, 1, 42, 1), [(NO_TAPS, 0, 0, 0, 0xFFFFFF)] * SUBFRAMES)
+    return low(MEAN, (42, 1, 42, 1), [(NO_TAPS, 0, [0] * SUB)] * SUBFRAMES)
 
 
 # ---- calls
@@ -100,10 +97,12 @@ def fresh(on=1):
 
 
 def state(f):
-    line("S", 0, 0, [b for xs in f.values() for x in xs for b in (x & 0xFFFFFFFF).to_bytes(4, "big")])
+    numbers = [x for name, _, _ in STATE for x in f[name]]
+    assert len(numbers) == STATE_NUMBERS
+    line("S", 0, 0, [b for x in numbers for b in (x & 0xFFFFFFFF).to_bytes(4, "big")])
 
 
-def decode(record, length=240, mark=MARK):
+def decode(record, length=FRAME, mark=MARK):
     line("D", length, mark, record)
 
 
@@ -134,6 +133,8 @@ def main():
     numbers(rng)
     narrow(rng)
     loudest()
+    floors_decide(rng)
+    gate_decides(rng)
 
 
 def extremes(rng):
@@ -141,27 +142,31 @@ def extremes(rng):
     for on in (1, 0):
         fresh(on)
         for tap in (MOST, LEAST):
-            blocks = [([tap] * 5, 23, 2 * (s % 2) + 1, (63, 31)[s % 2], 0) for s in range(4)]
-            decode(high(near_mean(rng, 2000), (0, 0, 0, 3), blocks))
-        decode(low(near_mean(rng), (5, 0, 5, 3), [([MOST, LEAST, MOST, LEAST, MOST], 23, [(MOST, LEAST)[i % 2] for i in range(60)])] * 4))
+            blocks = [([tap] * TAPS, GAIN_MOST, TRAIN * (s % 2) + 1, SIGNS_MOST[s], 0) for s in range(SUBFRAMES)]
+            decode(high(near_mean(rng, 2000), (0, 0, 0, STEP_MOST), blocks))
+        values = [(MOST, LEAST)[i % 2] for i in range(SUB)]
+        decode(low(near_mean(rng), (5, 0, 5, STEP_MOST), [([MOST, LEAST, MOST, LEAST, MOST], GAIN_MOST, values)] * SUBFRAMES))
         decode(ERASED)
     fresh()
     decode(voiced(rng))
-    for lsps in ([0] * 10, list(reversed(MEAN)), [LEAST] * 10, [MOST] * 10, bits16(rng, 10), [1000, 1100, *range(2000, 10000, 1000)], sorted(bits16(rng, 10))):
+    for lsps in ([0] * LSPS, list(reversed(MEAN)), [LEAST] * LSPS, [MOST] * LSPS, bits16(rng, LSPS), [1000, 1100, *range(2000, 10000, 1000)], sorted(bits16(rng, LSPS))):
         record = voiced(rng)
-        record[1:21] = words(lsps)
+        record[AT_LSPS:AT_LAG_A] = words(lsps)
         decode(record)
     decode(ERASED)
-    for a, b in ((0, 127), (127, 0), (1, 126), (124, 125), (39, 40), (101, 102)):
+    # Codes at both ends, and of lags at the longest one, at that of a train and where the voicing search leaves its tail.
+    ends = [(0, LAG_CODE_MOST), (LAG_CODE_MOST, 0), (1, LAG_CODE_MOST - 1)]
+    for a, b in ends + [(lag_code(lag), lag_code(lag + 1)) for lag in (LONGEST_LAG, TRAIN_LAG - 1, TAIL - 1)]:
         record = speech(rng, HIGH, 60, 9000, 15)
-        record[21], record[23] = a, b
-        record[22], record[24] = rng.choice(((0, 3), (3, 0)))
-        for s in range(4):
-            record[25 + 16 * s + 11] &= 1
+        record[AT_LAG_A], record[AT_LAG_B] = a, b
+        record[AT_STEP_1], record[AT_STEP_3] = rng.choice(((0, STEP_MOST), (STEP_MOST, 0)))
+        for s in range(SUBFRAMES):
+            record[block_place(HIGH, s, AT_FLAGS)] &= 1
         decode(record)
         decode(ERASED)
     # The largest 24-bit code, the limit, and below it.
-    decode(high(near_mean(rng), (20, 1, 30, 2), [([0] * 5, 20, 1, 5, code) for code in (0xFFFFFF, 142506, 593774, 142505)]))
+    found = (0xFFFFFF, LIMITS[1], LIMITS[2] - 1, LIMITS[3] - 1)
+    decode(high(near_mean(rng), (20, 1, 30, 2), [(NO_TAPS, 20, 1, 5, code) for code in found]))
 
 
 # ---- given states
@@ -172,18 +177,18 @@ def fields(rng=None, size=0, on=1):
     small = (lambda n: noise(rng, n, size)) if rng else (lambda n: [0] * n)
     one = (lambda lo, hi, plain: rng.choice((lo, hi, rng.randrange(lo, hi + 1)))) if rng else (lambda lo, hi, plain: plain)
     return {
-        "prev_lsp": sorted(bits16(rng, 10)) if rng else list(MEAN),
-        "exc_hist": small(146),
-        "syn_mem": small(10),
-        "num_mem": small(10),
-        "den_mem": small(10),
+        "prev_lsp": sorted(bits16(rng, LSPS)) if rng else list(MEAN),
+        "exc_hist": small(HIST),
+        "syn_mem": small(LSPS),
+        "num_mem": small(LSPS),
+        "den_mem": small(LSPS),
         "tilt": [one(LEAST, MOST, 0), one(LEAST, MOST, 0)],
-        "gain": [one(0, 2**20, 4096)],
-        "last_lag": [one(17, 147, 60)],
-        "last_lag2": [one(18, 145, 60)],
-        "taps_sum": [one(0, 32767, 0)],
-        "gain_unvoiced": [one(0, 13246, 0)],
-        "pcm_hist": small(120),
+        "gain": [one(*GAIN, 4096)],
+        "last_lag": [one(*LAST_LAG, 60)],
+        "last_lag2": [one(*LAST_BASE_LAG, 60)],
+        "taps_sum": [one(*TAP_SUM, 0)],
+        "gain_unvoiced": [one(*UNVOICED_GAIN, 0)],
+        "pcm_hist": small(TAIL),
         "erased_run": [one(0, 5, 0)],
         "postfilter": [on],
     }
@@ -191,16 +196,16 @@ def fields(rng=None, size=0, on=1):
 
 def given(rng):
     # At each bound of number 2, and one beyond.
-    for name, lo, hi in (("exc_hist", LEAST, MOST), ("syn_mem", LEAST, MOST), ("gain", 0, 2**20), ("last_lag", 17, 147), ("last_lag2", 18, 145), ("taps_sum", 0, 32767), ("gain_unvoiced", 0, 13246)):
+    for name, (lo, hi) in [(name, bounds) for name, _, bounds in STATE if bounds]:
         for value in (lo - 1, lo, hi, hi + 1):
             f = fields()
             f[name][rng.choice((0, -1))] = value
             state(f)
             decode(ERASED)
-    # The run stays at 2^32 - 1.
-    for run in (2, 3, 2**32 - 2, 2**32 - 1):
+    # The run stays at its greatest.
+    for run in (2, 3, RUN_MOST - 1, RUN_MOST):
         f = fields()
-        f["erased_run"], f["gain_unvoiced"] = [run], [13246]
+        f["erased_run"], f["gain_unvoiced"] = [run], [UNVOICED_GAIN[1]]
         state(f)
         decode(ERASED)
         decode(ERASED)
@@ -213,15 +218,15 @@ def given(rng):
         state(f)
         decode(ERASED)
     # The stored lag of subframe 3 is not heard.
-    for lag in (17, 147):
+    for lag in LAST_LAG:
         f = fields()
-        f["pcm_hist"] = [((i % 30) - 15) * 100 for i in range(120)]
-        f["exc_hist"] = [((i % 30) - 15) * 50 for i in range(146)]
+        f["pcm_hist"] = [((i % 30) - 15) * 100 for i in range(TAIL)]
+        f["exc_hist"] = [((i % 30) - 15) * 50 for i in range(HIST)]
         f["last_lag"], f["last_lag2"], f["taps_sum"], f["gain_unvoiced"] = [lag], [30], [30000], [100]
         state(f)
         decode(ERASED)
         decode(voiced(rng))
-    for size in (40, 900, 32767):
+    for size in (40, 900, MOST):
         for on in (1, 0):
             state(fields(rng, size, on))
             decode(ERASED)
@@ -237,21 +242,31 @@ def wrong(number, record):
     if number == 3:
         return []
     if number == 4:
-        return [3] + r[1:]
+        return [LOW + 1] + r[1:]
     if number == 5:
         return r + [0]
-    at, size = 25, BLOCK[r[0]]
-    place, value = {6: (23, 128), 7: (24, 4), 8: (at + 3 * size + 10, 24), 9: (at + 2 * size + 11, 4), 10: (at + 12, 64)}[number]
-    r[place] = value
+    if number == 6:
+        place, most = AT_LAG_B, LAG_CODE_MOST
+    elif number == 7:
+        place, most = AT_STEP_3, STEP_MOST
+    else:
+        place, most = block_limit(r[0], number, {8: 3, 9: 2, 10: 0}[number])
+    r[place] = most + 1
     return r
 
 
+def block_limit(kind, number, s):
+    """Where a subframe's block has what number 8, 9 or 10 tests, and the most that is accepted."""
+    place, most = {8: (AT_GAIN, GAIN_MOST), 9: (AT_FLAGS, FLAGS_MOST), 10: (AT_SIGNS, SIGNS_MOST[s])}[number]
+    return block_place(kind, s, place), most
+
+
 def at_once(numbers, record):
-    """The record with the faults of several numbers, in samples of 239 where 1 is one of them."""
+    """The record with the faults of several numbers, with a sample too few where 1 is one of them."""
     for n in sorted(numbers, reverse=True):
         if n > 2:
             record = wrong(n, record)
-    decode(record, 239 if 1 in numbers else 240)
+    decode(record, FRAME - 1 if 1 in numbers else FRAME)
 
 
 def lower(number):
@@ -272,7 +287,7 @@ def numbers(rng):
             at_once(case, plain)
     decode(good)
     f = fields()
-    f["last_lag"] = [148]
+    f["last_lag"] = [LAST_LAG[1] + 1]
     state(f)
     for case in cases:
         if 2 in case:
@@ -284,34 +299,36 @@ def numbers(rng):
     for s, t, first, second in ((0, 3, 9, 8), (0, 3, 10, 9), (0, 3, 10, 8), (1, 2, 9, 8)):
         r = list(plain)
         for k, n in ((s, first), (t, second)):
-            place = 25 + 16 * k + {8: 10, 9: 11, 10: 12}[n]
-            r[place] = {8: 24, 9: 4, 10: 64}[n]
+            place, most = block_limit(HIGH, n, k)
+            r[place] = most + 1
         decode(r)
-    # At the limits: codes 127 and 128, steps 3 and 4, gains 23 and 24, flags 3 and 4, signs at the pulse count.
-    for place, values in ((21, (127, 128, 255)), (23, (127, 128)), (22, (3, 4, 255)), (24, (3, 4))):
-        for value in values:
+    # At the limits of codes and steps, of gains, flags and signs, and beyond.
+    for place, most, *far in ((AT_LAG_A, LAG_CODE_MOST, 255), (AT_LAG_B, LAG_CODE_MOST), (AT_STEP_1, STEP_MOST, 255), (AT_STEP_3, STEP_MOST)):
+        for value in (most, most + 1, *far):
             r = list(plain)
             r[place] = value
             decode(r)
-    for s in range(4):
-        for place, values in ((10, (24,)), (11, (4,)), (12, ((63, 64), (31, 32))[s % 2])):
-            for value in values:
+    for s in range(SUBFRAMES):
+        for n, near in ((8, (1,)), (9, (1,)), (10, (0, 1))):
+            place, most = block_limit(HIGH, n, s)
+            for more in near:
                 r = list(plain)
-                r[25 + 16 * s + place] = value
+                r[place] = most + more
                 decode(r)
-        # A train at base lag 57 and 58.
-        for code in (39, 40):
+        # A train at the longest base lag that can have one, and at the next.
+        for lag in (TRAIN_LAG - 1, TRAIN_LAG):
             r = list(plain)
-            r[21 + s // 2 * 2] = code
-            r[25 + 16 * s + 11] = 2
+            r[lag_place(s)] = lag_code(lag)
+            r[block_place(HIGH, s, AT_FLAGS)] = TRAIN
             decode(r)
         r = silent(LOW)
-        r[25 + 131 * s + 10] = 24
+        r[block_place(LOW, s, AT_GAIN)] = GAIN_MOST + 1
         decode(r)
     # No byte, kinds, lengths, and the length of the samples.
-    for record in ([], [3], [255], [9] * 89, [0, 0], [1], [2], plain[:88], plain + [0], [2] + plain[1:], [1] * 549, silent(LOW)[:548], silent(LOW) + [0]):
+    quiet = silent(LOW)
+    for record in ([], [LOW + 1], [255], [9] * LENGTH[HIGH], [0, 0], [HIGH], [LOW], plain[:-1], plain + [0], [LOW] + plain[1:], [HIGH] * LENGTH[LOW], quiet[:-1], quiet + [0]):
         decode(record)
-    for length in (0, 1, 239, 241, 300):
+    for length in (0, 1, FRAME - 1, FRAME + 1, 300):
         decode(plain, length, -3)
         decode([], length)
     decode(good)
@@ -323,7 +340,7 @@ def numbers(rng):
 def lost(rng, lag, tail):
     """An erased frame after a tail, heard otherwise at each lag and as noise."""
     f = fields()
-    f["pcm_hist"], f["exc_hist"], f["last_lag2"] = tail, noise(rng, 146, 900), [lag]
+    f["pcm_hist"], f["exc_hist"], f["last_lag2"] = tail, noise(rng, HIST, 900), [lag]
     f["taps_sum"], f["gain_unvoiced"] = [30000], [300]
     state(f)
     decode(ERASED)
@@ -331,29 +348,56 @@ def lost(rng, lag, tail):
 
 def narrow(rng):
     # A period below the shortest lag.
-    lost(rng, 18, periodic(rng, 120, 16, 900, 9))
+    lost(rng, SHORTEST_LAG, periodic(rng, TAIL, 16, 900, 9))
     # 8 c² = e t.
-    lost(rng, 60, [500 if i == 10 or 70 <= i < 78 else 0 for i in range(120)])
+    lost(rng, 60, [500 if i == 10 or 70 <= i < 78 else 0 for i in range(TAIL)])
     # Ranks so close that their scale decides.
     for step, bits in ((60, 24), (3, 36)):
-        lag, tail = 0, []
-        while not tail or leader(tail, lag, bits) == leader(tail, lag, 30):
-            lag = rng.randrange(21, 100)
-            tail = [30000 + rng.randrange(-step, step + 1) for _ in range(120)]
-        lost(rng, lag, tail)
+        lost(rng, *searched(rng, level(30000, step), ranked_otherwise(bits)))
+
+
+def alternating(rng, lag):
+    """A level whose sign changes from sample to sample, so that odd lags have c below 0."""
+    return [(-1) ** i * (21000 + rng.randrange(-2, 3)) for i in range(TAIL)]
+
+
+def pulses(rng, lag):
+    """A pulse, and two of equal size about a lag after it, so that two lags rank almost alike; small samples decide."""
+    tail = [rng.choice((-1, 0, 0, 0, 0, 0, 0, 1)) for _ in range(TAIL)]
+    first, size = rng.randrange(TAIL - lag - 3), rng.randrange(25000, MOST)
+    tail[first] = rng.randrange(25000, MOST)
+    tail[first + lag - rng.randrange(1, 4)] = tail[first + lag + rng.randrange(1, 4)] = size
+    return tail
+
+
+def floors_decide(rng):
+    """Where exact quotients rank another lag first than their floors, at short and long lags."""
+    for made, lags in ((level(-27000, 4), (24, 40)), (pulses, (44, 58)), (alternating, (64, 100))):
+        lost(rng, *searched(rng, made, ranked_otherwise(EXACT), lags))
+
+
+def few(*sizes):
+    """A few samples of given sizes."""
+    return lambda rng, lag: [rng.choice((-1, 1)) * rng.choice(sizes) if rng.random() < 0.08 else 0 for _ in range(TAIL)]
+
+
+def gate_decides(rng):
+    """Where 8 c² = e t, at short and long lags, the last with products of more than 64 bits."""
+    for made, lags, least in ((few(1, 2), (24, 45), 1), (few(300, 900), (65, 85), 1), (few(30000), (30, 55), 2**64)):
+        lost(rng, *searched(rng, made, at_gate(least), lags))
 
 
 def coefficients(lsps):
     """The coefficients of LSPs, as fractions: to choose a record by, never to answer."""
     both = []
     for first in (0, 1):
-        p = [1.0] + [0.0] * 10
+        p = [1.0] + [0.0] * LSPS
         for lsp in lsps[first::2]:
             c = 2 * math.cos(math.pi * lsp / 32768)
-            p = [p[i] - c * (p[i - 1] if i > 0 else 0) + (p[i - 2] if i > 1 else 0) for i in range(11)]
+            p = [p[i] - c * (p[i - 1] if i > 0 else 0) + (p[i - 2] if i > 1 else 0) for i in range(LSPS + 1)]
         both.append(p)
     p, q = both
-    return [-(p[j] + p[j - 1] + q[j] - q[j - 1]) / 2 for j in range(1, 11)]
+    return [-(p[j] + p[j - 1] + q[j] - q[j - 1]) / 2 for j in range(1, LSPS + 1)]
 
 
 def loudest():
@@ -363,12 +407,13 @@ def loudest():
     f = fields()
     f["syn_mem"], f["num_mem"] = list(past), list(past)
     values = []
-    for _ in range(60):
+    for _ in range(SUB):
         y = round(sum(x * 0.65 ** (j + 1) * past[j] for j, x in enumerate(a)))
         values.append(y - round(sum(x * past[j] for j, x in enumerate(a))))
-        past = [y] + past[:9]
+        past = [y] + past[:-1]
     state(f)
-    decode(low(MEAN, (124, 1, 124, 1), [([0] * 5, 0, part) for part in (values, [0] * 60, [0] * 60, [0] * 60)]))
+    code = lag_code(LONGEST_LAG)
+    decode(low(MEAN, (code, 1, code, 1), [(NO_TAPS, 0, part) for part in (values, *[[0] * SUB] * (SUBFRAMES - 1))]))
 
 
 if __name__ == "__main__":

@@ -12,15 +12,13 @@ import sys
 # A cache of the modules beside this script would be left in the repository.
 sys.dont_write_bytecode = True
 import signals
-from calls import BLOCK, ERASED, HIGH, LIMITS, LOW, MEAN, high, low, near_mean, silent, speech, unvoiced, voiced, words, wrong
+from calls import NO_TAPS, block_limit, high, low, near_mean, silent, speech, unvoiced, voiced, words, wrong
+from places import *
 from questions import at_edge
-from signals import ALL, HIST, LEAST, MOST, SUB, bits16
+from signals import ALL, bits16
 
-LONGEST = 1098
 # Just outside the three ranges of digits.
 BESIDE = b"/:@G`g"
-NO_TAPS = [0] * 5
-BLOCKS = 25
 
 
 def text(record):
@@ -55,9 +53,10 @@ def between(rng, groups):
 
 def beside_digits(good):
     """A character that is no digit at the ends of a record and of a pair, and in the middle."""
+    middle = len(good) // 2
     for c in BESIDE:
         bad = bytes([c])
-        spoilt = [good[:i] + bad + good[i + 1 :] for i in (0, 1, 88, 89, len(good) - 2, len(good) - 1)]
+        spoilt = [good[:i] + bad + good[i + 1 :] for i in (0, 1, middle - 1, middle, len(good) - 2, len(good) - 1)]
         yield [*spoilt, bad, bad + bad, good + bad, bad + good]
 
 
@@ -82,10 +81,10 @@ def long_lines(rng):
     record = text(unvoiced(rng, LOW))
     yield [record]
     yield [record[:-2], record[:-1], record + b"0", record + b"00", record + b"\r", record[:-1] + b"g"]
-    yield [b"03" + record[2:], b"01" + record[2:], b"00" + record[2:], b"01" * 549 + b"0", b"01" * 550]
+    yield [b"03" + record[2:], b"01" + record[2:], b"00" + record[2:], b"01" * LENGTH[LOW] + b"0", b"01" * (LENGTH[LOW] + 1)]
     # One that a length of sixteen bits would take for a High record.
-    yield [(text(voiced(rng)) * 400)[: 65536 + 178]]
-    yield [record + b"0" * (100_000 - LONGEST)]
+    yield [(text(voiced(rng)) * 400)[: 65536 + 2 * LENGTH[HIGH]]]
+    yield [record + b"0" * (100_000 - LONGEST_LINE)]
 
 
 def frames_text(rng):
@@ -112,27 +111,29 @@ def put(record, place, value):
 
 
 def in_block(record, s, place, value):
-    return put(record, BLOCKS + s * BLOCK[record[0]] + place, value)
+    return put(record, block_place(record[0], s, place), value)
 
 
 def trained(record, code, s):
     """The record with one train, at a base lag code."""
-    for k in range(4):
-        record = in_block(record, k, 11, 0)
-    return in_block(put(record, 21 + s // 2 * 2, code), s, 11, 2)
+    for k in range(SUBFRAMES):
+        record = in_block(record, k, AT_FLAGS, 0)
+    return in_block(put(record, lag_place(s), code), s, AT_FLAGS, TRAIN)
 
 
 def alone(rng):
     """Each number alone: of 6 to 10 each at every place that can have it."""
     good = voiced(rng)
-    yield [[], [3], put(good, 0, 3), put(good, 0, 255), good + [0], good[:-1]]
-    yield [put(good, place, value) for place in (21, 23) for value in (128, 255)]
-    yield [put(good, place, value) for place in (22, 24) for value in (4, 255)]
-    for place, values in ((10, (24, 255)), (11, (4, 255)), (12, None)):
-        yield [in_block(good, s, place, v) for s in range(4) for v in values or ((64, 128), (32, 64))[s % 2]]
-    yield [trained(good, 40, s) for s in range(4)]
+    yield [[], [LOW + 1], put(good, 0, LOW + 1), put(good, 0, 255), good + [0], good[:-1]]
+    yield [put(good, place, value) for place in (AT_LAG_A, AT_LAG_B) for value in (LAG_CODE_MOST + 1, 255)]
+    yield [put(good, place, value) for place in (AT_STEP_1, AT_STEP_3) for value in (STEP_MOST + 1, 255)]
+    for place, most in ((AT_GAIN, GAIN_MOST), (AT_FLAGS, FLAGS_MOST)):
+        yield [in_block(good, s, place, v) for s in range(SUBFRAMES) for v in (most + 1, 255)]
+    # The two bits above the pulses.
+    yield [in_block(good, s, AT_SIGNS, bit * (SIGNS_MOST[s] + 1)) for s in range(SUBFRAMES) for bit in (1, 2)]
+    yield [trained(good, lag_code(TRAIN_LAG), s) for s in range(SUBFRAMES)]
     quiet = silent(LOW)
-    yield [put(quiet, 23, 128), put(quiet, 22, 4), in_block(quiet, 3, 10, 24)]
+    yield [put(quiet, AT_LAG_B, LAG_CODE_MOST + 1), put(quiet, AT_STEP_1, STEP_MOST + 1), in_block(quiet, 3, AT_GAIN, GAIN_MOST + 1)]
 
 
 def lowest(rng):
@@ -146,33 +147,38 @@ def lowest(rng):
             yield pair
         yield record
     for n, m in ((8, 9), (8, 10), (9, 10)):
-        faults = {8: (10, 24), 9: (11, 4), 10: (12, 64)}
-        yield in_block(in_block(good, 3, *faults[n]), 0, *faults[m])
+        record = good
+        for s, number in ((3, n), (0, m)):
+            place, most = block_limit(HIGH, number, s)
+            record = put(record, place, most + 1)
+        yield record
 
 
 def on_both_sides(rng):
     """At each limit, the last that is accepted and the first that is not."""
     good = voiced(rng)
-    for place in (21, 23):
-        plain = trained(good, 20, 2 - (place - 21))
-        yield [put(plain, place, code) for code in (127, 128)]
-    for place in (22, 24):
-        yield [put(good, place, step) for step in (3, 4)]
-    for s in range(4):
-        yield [in_block(good, s, 10, gain) for gain in (23, 24)]
-        yield [in_block(trained(good, 20, s), s, 11, flags) for flags in (3, 4)]
-        yield [trained(good, code, s) for code in (39, 40)]
-        yield [in_block(good, s, 12, signs) for signs in ((63, 64), (31, 32))[s % 2]]
+    # The train stands in a subframe of the other code.
+    for place, s in ((AT_LAG_A, 2), (AT_LAG_B, 0)):
+        plain = trained(good, 20, s)
+        yield [put(plain, place, code) for code in (LAG_CODE_MOST, LAG_CODE_MOST + 1)]
+    for place in (AT_STEP_1, AT_STEP_3):
+        yield [put(good, place, step) for step in (STEP_MOST, STEP_MOST + 1)]
+    for s in range(SUBFRAMES):
+        yield [in_block(good, s, AT_GAIN, gain) for gain in (GAIN_MOST, GAIN_MOST + 1)]
+        yield [in_block(trained(good, 20, s), s, AT_FLAGS, flags) for flags in (FLAGS_MOST, FLAGS_MOST + 1)]
+        yield [trained(good, lag_code(lag), s) for lag in (TRAIN_LAG - 1, TRAIN_LAG)]
+        first = SIGNS_MOST[s] + 1
+        yield [in_block(good, s, AT_SIGNS, signs) for signs in (first - 1, first)]
         # Bit n - 1 alone, and bit n alone with those below.
-        yield [in_block(good, s, 12, signs) for signs in ((32, 127), (16, 63))[s % 2]]
+        yield [in_block(good, s, AT_SIGNS, signs) for signs in (first // 2, 2 * first - 1)]
 
 
 def lengths(rng):
-    """Lengths beside those of the kinds, and kinds that do not exist. 550 bytes are a line that is too long."""
+    """Lengths beside those of the kinds, and kinds that do not exist. One more byte than a Low record has is too long a line."""
     rate_high, rate_low = voiced(rng), unvoiced(rng, LOW)
-    yield [rate_high[:88], rate_high, rate_high + [0], [LOW] + rate_high[1:], ERASED + rate_high[1:]]
-    yield [rate_low[:548], rate_low, rate_low + [0], [HIGH] + rate_low[1:], ERASED + rate_low[1:]]
-    yield [ERASED, [0, 0], [HIGH], [LOW], [3], [255], [HIGH] * 2, [3] * 89, [255] * 549]
+    yield [rate_high[:-1], rate_high, rate_high + [0], [LOW] + rate_high[1:], ERASED + rate_high[1:]]
+    yield [rate_low[:-1], rate_low, rate_low + [0], [HIGH] + rate_low[1:], ERASED + rate_low[1:]]
+    yield [ERASED, [0, 0], [HIGH], [LOW], [LOW + 1], [255], [HIGH] * 2, [LOW + 1] * LENGTH[HIGH], [255] * LENGTH[LOW]]
 
 
 def in_a_run(rng):
@@ -196,54 +202,62 @@ def lossy(rng, make, kind, before, lost, after=1):
 
 
 # Kinds, base lags and steps near both limits, and where the voicing search leaves its tail.
-ENDS = [(HIGH, 18, 145, (0, 3)), (LOW, 145, 142, (3, 0)), (LOW, 141, 143, (2, 1)), (HIGH, 116, 118, (1, 2))]
+ENDS = [
+    (HIGH, *LAST_BASE_LAG, (0, STEP_MOST)),
+    (LOW, LAST_BASE_LAG[1], LONGEST_LAG, (STEP_MOST, 0)),
+    (LOW, LONGEST_LAG - 1, LONGEST_LAG + 1, (2, 1)),
+    (HIGH, TAIL - 4, TAIL - 2, (1, 2)),
+]
 
 
 def at_lag(rng, kind, lag_a, lag_b, steps):
     """Speech whose base lags and steps are given."""
     record = speech(rng, kind, 60, 9000, 14)
-    record[21:25] = [lag_a - 18, steps[0], lag_b - 18, steps[1]]
+    record[AT_LAG_A:AT_BLOCKS] = [lag_code(lag_a), steps[0], lag_code(lag_b), steps[1]]
     return record
 
 
 def train(rng, lag_a, lag_b, codes, gain=12):
     """A train in every subframe, on either grid."""
-    blocks = [([0, 0, 6000, 0, 0], gain, 2 + (s + codes[0]) % 2, rng.randrange((64, 32)[s % 2]), codes[s]) for s in range(4)]
-    return high(near_mean(rng), (lag_a - 18, rng.randrange(4), lag_b - 18, rng.randrange(4)), blocks)
+    blocks = [([0, 0, 6000, 0, 0], gain, TRAIN + (s + codes[0]) % 2, rng.randrange(SIGNS_MOST[s] + 1), codes[s]) for s in range(SUBFRAMES)]
+    steps = STEP_MOST + 1
+    return high(near_mean(rng), (lag_code(lag_a), rng.randrange(steps), lag_code(lag_b), rng.randrange(steps)), blocks)
 
 
 def trains(rng):
     """Base lags at both ends and between; pulses that meet those of other multiples, and codes at the limits."""
-    for lag_a, lag_b in ((18, 57), (20, 19), (29, 30), (56, 24)):
+    for lag_a, lag_b in ((FIRST_LAG, TRAIN_LAG - 1), (20, FIRST_LAG + 1), (29, 30), (TRAIN_LAG - 2, 24)):
         yield train(rng, lag_a, lag_b, [rng.randrange(limit) for limit in LIMITS])
-    yield train(rng, 18, 20, [0, 0, 118754, 142505])
-    yield train(rng, 22, 18, [118755, 1, 593774, 0], 23)
+    # 118755 codes of six have their first pulse in slot 0.
+    yield train(rng, FIRST_LAG, 20, [0, 0, 118754, LIMITS[3] - 1])
+    yield train(rng, 22, FIRST_LAG, [118755, 1, LIMITS[2] - 1, 0], GAIN_MOST)
 
 
 def codes(rng):
     """Position codes at the limit, on both sides of it and far above."""
-    for found in ((593774, 142505, 593775, 142506), (593776, 142507, 0xFFFFFF, 0xFFFFFF), (0, 0, 1 << 20, 1 << 18)):
-        yield high(near_mean(rng), (30, 0, 90, 3), [(NO_TAPS, 15 + s, s % 2, (41, 19)[s % 2], found[s]) for s in range(4)])
+    six, five = LIMITS[:2]
+    for found in ((six - 1, five - 1, six, five), (six + 1, five + 1, 0xFFFFFF, 0xFFFFFF), (0, 0, 1 << 20, 1 << 18)):
+        yield high(near_mean(rng), (30, 0, 90, STEP_MOST), [(NO_TAPS, 15 + s, s % 2, (41, 19)[s % 2], found[s]) for s in range(SUBFRAMES)])
 
 
 def with_lsps(record, lsps):
-    return record[:1] + words(lsps) + record[21:]
+    return record[:AT_LSPS] + words(lsps) + record[AT_LAG_A:]
 
 
 def turns(lsps):
-    """How many passes move a pair, at most 12: to choose LSPs by."""
+    """How many passes move a pair, at most two more than there are: to choose LSPs by."""
     p, n = list(lsps), 0
-    while n < 12 and any(b - a < 256 for a, b in zip(p, p[1:])):
-        for j in range(9):
-            if p[j + 1] - p[j] < 256:
+    while n < PASSES + 2 and any(b - a < MINIMUM for a, b in zip(p, p[1:])):
+        for j in range(LSPS - 1):
+            if p[j + 1] - p[j] < MINIMUM:
                 middle = (p[j] + p[j + 1]) // 2
-                p[j], p[j + 1] = max(middle - 128, LEAST), min(middle + 128, MOST)
+                p[j], p[j + 1] = max(middle - MINIMUM // 2, LEAST), min(middle + MINIMUM // 2, MOST)
         n += 1
     return n
 
 
 def by_turns(rng, wanted):
-    return next(p for p in iter(lambda: at_edge(rng, 256), None) if turns(p) == wanted)
+    return next(p for p in iter(lambda: at_edge(rng, MINIMUM), None) if turns(p) == wanted)
 
 
 def unstable(rng):
@@ -251,10 +265,10 @@ def unstable(rng):
     close = [m - m % 2000 // 3 * (i % 2) for i, m in enumerate(MEAN)]
     near = list(MEAN)
     near[4] = near[3] + 300
-    ladder = [8000 + 255 * i for i in range(10)]
-    rows = [list(reversed(MEAN)), [LEAST] * 10, close, [MOST] * 10, ladder, near]
-    rows += [bits16(rng, 10), sorted(bits16(rng, 10)), [1000, 1100, *range(2000, 10000, 1000)]]
-    rows += [by_turns(rng, 10), by_turns(rng, 11), [LEAST, LEAST + 248, *MEAN[2:]], [*MEAN[:8], MOST - 167, MOST]]
+    ladder = [8000 + (MINIMUM - 1) * i for i in range(LSPS)]
+    rows = [list(reversed(MEAN)), [LEAST] * LSPS, close, [MOST] * LSPS, ladder, near]
+    rows += [bits16(rng, LSPS), sorted(bits16(rng, LSPS)), [1000, 1100, *range(2000, 10000, 1000)]]
+    rows += [by_turns(rng, PASSES), by_turns(rng, PASSES + 1), [LEAST, LEAST + 248, *MEAN[2:]], [*MEAN[:8], MOST - 167, MOST]]
     for lsps in rows:
         yield with_lsps(voiced(rng), lsps)
     yield from (ERASED, ERASED, voiced(rng))
@@ -267,45 +281,46 @@ def code_of(slots):
         if slot in slots:
             wanted -= 1
         else:
-            code += math.comb(29 - slot, wanted - 1)
+            code += math.comb(SLOTS - 1 - slot, wanted - 1)
     return code
 
 
 def met(rng):
     """Four pulses that a train brings to one sample, past 16 bits, on an adaptive part below 0."""
-    yield low(MEAN, (42, 1, 42, 1), [(NO_TAPS, 9, [-12000] * SUB)] * 4)
+    yield low(MEAN, (42, 1, 42, 1), [(NO_TAPS, 9, [-12000] * SUB)] * SUBFRAMES)
     pulses = [(0, 9, 18, 27, 28, 29), (0, 9, 18, 27, 29)]
-    yield high(MEAN, (0, 1, 0, 1), [([0, 0, 16384, 0, 0], 23, 2, 0, code_of(pulses[s % 2])) for s in range(4)])
+    yield high(MEAN, (0, 1, 0, 1), [([0, 0, 16384, 0, 0], GAIN_MOST, TRAIN, 0, code_of(pulses[s % 2])) for s in range(SUBFRAMES)])
 
 
 def saturated(rng):
     """Taps, gains and values at their ends, and what is lost and received after them."""
     for tap in (MOST, LEAST):
-        blocks = [([tap] * 5, 23, 2 * (s % 2) + 1, (63, 31)[s % 2], 0) for s in range(4)]
-        yield high(near_mean(rng, 2000), (0, 0, 0, 3), blocks)
+        blocks = [([tap] * TAPS, GAIN_MOST, TRAIN * (s % 2) + 1, SIGNS_MOST[s], 0) for s in range(SUBFRAMES)]
+        yield high(near_mean(rng, 2000), (0, 0, 0, STEP_MOST), blocks)
     rails = [(MOST, LEAST)[i // 7 % 2] for i in range(SUB)]
-    yield low(near_mean(rng), (5, 0, 5, 3), [([MOST, LEAST, MOST, LEAST, MOST], 23, rails)] * 4)
-    yield low(near_mean(rng), (60, 1, 60, 1), [([0, 0, 16384, 0, 0], 23, rails)] * 4)
+    yield low(near_mean(rng), (5, 0, 5, STEP_MOST), [([MOST, LEAST, MOST, LEAST, MOST], GAIN_MOST, rails)] * SUBFRAMES)
+    yield low(near_mean(rng), (60, 1, 60, 1), [([0, 0, 16384, 0, 0], GAIN_MOST, rails)] * SUBFRAMES)
     yield from (ERASED, ERASED)
     yield from (voiced(rng), voiced(rng), ERASED)
 
 
 def wild(rng):
     """Every free field at random over its whole range."""
+    gains, codes = GAIN_MOST + 1, LAG_CODE_MOST + 1
     for _ in range(2):
-        pulses = [(bits16(rng, 5), rng.randrange(24), s % 2, rng.randrange(32), rng.randrange(1 << 24) >> 4 * s) for s in range(4)]
-        yield high(bits16(rng, 10), (rng.randrange(128), 0, rng.randrange(128), 3), pulses)
-        values = [(bits16(rng, 5), rng.randrange(24), bits16(rng, SUB)) for _ in range(4)]
-        yield low(sorted(bits16(rng, 10)), (rng.randrange(128), 2, rng.randrange(128), 0), values)
+        pulses = [(bits16(rng, TAPS), rng.randrange(gains), s % 2, rng.randrange(SIGNS_MOST[1] + 1), rng.randrange(1 << 24) >> 4 * s) for s in range(SUBFRAMES)]
+        yield high(bits16(rng, LSPS), (rng.randrange(codes), 0, rng.randrange(codes), STEP_MOST), pulses)
+        values = [(bits16(rng, TAPS), rng.randrange(gains), bits16(rng, SUB)) for _ in range(SUBFRAMES)]
+        yield low(sorted(bits16(rng, LSPS)), (rng.randrange(codes), 2, rng.randrange(codes), 0), values)
         yield ERASED
 
 
 def given_excitation(x, lag):
     """Two Low frames whose excitation ends in a signal of history and frame, the second at a base lag."""
-    values = [0] * (4 * SUB - HIST) + x
-    frames = [values[: 4 * SUB], values[4 * SUB :]]
-    for code, part in zip((42, lag - 18), frames):
-        yield low(MEAN, (code, 1, code, 1), [(NO_TAPS, 9, part[s * SUB :][:SUB]) for s in range(4)])
+    values = [0] * (FRAME - HIST) + x
+    frames = [values[:FRAME], values[FRAME:]]
+    for code, part in zip((42, lag_code(lag)), frames):
+        yield low(MEAN, (code, 1, code, 1), [(NO_TAPS, 9, part[s * SUB :][:SUB]) for s in range(SUBFRAMES)])
 
 
 def tie_is_heard(x, p, lag):
@@ -339,7 +354,7 @@ def gated(rng):
     """At the gate, at a period that a search with one more lag would find, and with a result of less energy."""
     # c and d are a sample's square, the energy four times it.
     yield from given_excitation(placed(HIST + SUB, 10, 20, 30, 40, -52), 63)
-    yield from given_excitation(signals.periodic(rng, ALL, 146, 30, 6), 145)
+    yield from given_excitation(signals.periodic(rng, ALL, LONGEST_LAG + 4, 30, 6), LAST_BASE_LAG[1])
     x = [0] * ALL
     x[HIST : HIST + 7] = [100] + [10] * 6
     x[HIST - SUB : HIST - SUB + 7] = [3] + [-1] * 6
@@ -353,8 +368,8 @@ def off_centre(rng):
     first, second = given_excitation(x, 48)
     # With a tap in subframe 3, so that the loss is heard; the values make up for it.
     taken = [(12000 * x[start - lag + n % lag] + 8192) // 16384 for n in range(SUB)]
-    second[24] = 3
-    second[BLOCKS + 3 * BLOCK[LOW] :] = words([0, 0, 12000, 0, 0]) + [9] + words(v - a for v, a in zip(x[start:], taken))
+    second[AT_STEP_3] = STEP_MOST
+    second[block_place(LOW, 3) :] = words([0, 0, 12000, 0, 0]) + [9] + words(v - a for v, a in zip(x[start:], taken))
     return [first, second, ERASED, ERASED]
 
 

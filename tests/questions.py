@@ -15,21 +15,18 @@ import sys
 
 import signals
 import voicing
+from places import CODE_LIMIT, FIRST_LAG, GAIN_MOST, LAST_BASE_LAG, LEAST, LONGEST_LAG, LSPS, MEAN, MINIMUM, MINIMUM_ERASED, MOST, PASSES, SLOTS, SUB, TRAIN_LAG
 
-EDGES16 = [-32768, -32767, -16385, -16384, -16383, -257, -256, -2, -1, 0, 1, 2, 255, 256, 16383, 16384, 16385, 32766, 32767]
+EDGES16 = [LEAST, LEAST + 1, -16385, -16384, -16383, -257, -256, -2, -1, 0, 1, 2, 255, 256, 16383, 16384, 16385, MOST - 1, MOST]
 EDGES32 = [-2147483648, -2147483647, -1073741825, -1073741824, -65537, -65536, -32769, -32768, -1, 0, 1, 32767, 32768, 65535, 65536, 1073741823, 1073741824, 2147450879, 2147450880, 2147483646, 2147483647]
 EDGES64 = [-(2**63), -(2**63) + 1, -(2**32), -(2**31) - 1, -(2**31), -1, 0, 1, 2**31 - 1, 2**31, 2**32, 2**63 - 1]
 # The least count is left out: the Rust overflows there (docs/DIFFERENCES.md).
 COUNTS = [-2147483647, -65536, -33, -32, -31, -17, -16, -15, -14, -13, -8, -1, 0, 1, 8, 13, 14, 15, 16, 17, 31, 32, 33, 65536, 2147483647]
 WORDS = [0, 1, 2, 2**31, 2**32 - 1, 2**32, 2**32 + 1, 2**63 - 1, 2**63, 2**64 - 2, 2**64 - 1]
 PAIRS = [0, 1, 2**32 - 1, 2**32, 2**63, 2**64 - 1, 2**64, 2**64 + 1, 2**96 - 1, 2**96, 2**127, 2**127 + 2**63, 2**128 - 2**64, 2**128 - 1]
-MEAN_LSPS = [3131, 4721, 7690, 10806, 13872, 16495, 19752, 22260, 25484, 27718]
-MINIMA = [256, 512]
+MINIMA = [MINIMUM, MINIMUM_ERASED]
 # What no frame asks for, and the function takes.
-OTHER_MINIMA = [-32768, -257, -1, 0, 1, 255, 257, 4000, 32767]
-# Five or six pulses in thirty slots.
-PULSES = [5, 6]
-LIMITS = {n: math.comb(30, n) for n in PULSES}
+OTHER_MINIMA = [LEAST, -257, -1, 0, 1, MINIMUM - 1, MINIMUM + 1, 4000, MOST]
 # Codes that a field of fewer bits would take for small ones.
 LONG_CODES = [2**k + c for k in (18, 20, 24, 31) for c in (0, 5)] + [2**24 - 1, 2**32 - 1]
 SHIFTS = [0, 1, 2, 3, 24, 30, 31, 32, 33, 63, 64, 65, 96, 127, 128, 129, 4294967295]
@@ -52,7 +49,7 @@ def two(n):
 
 
 def spread16(rng):
-    return rng.randrange(-32768, 32768)
+    return rng.randrange(LEAST, MOST + 1)
 
 
 def sized(rng, bits):
@@ -124,22 +121,22 @@ def wide(rng):
 def passes(lsps, minimum):
     """How many of ten passes move something, and whether every gap is then met: to choose questions by, never to answer."""
     p = list(lsps)
-    for n in range(10):
+    for n in range(PASSES):
         moved = False
-        for j in range(9):
+        for j in range(LSPS - 1):
             if p[j + 1] - p[j] < minimum:
                 average = (p[j] + p[j + 1]) // 2
-                p[j], p[j + 1] = max(average - minimum // 2, -32768), min(average + minimum // 2, 32767)
+                p[j], p[j + 1] = max(average - minimum // 2, LEAST), min(average + minimum // 2, MOST)
                 moved = True
         if not moved:
             return n, True
-    return 10, all(p[j + 1] - p[j] >= minimum for j in range(9))
+    return PASSES, all(p[j + 1] - p[j] >= minimum for j in range(LSPS - 1))
 
 
 def at_edge(rng, minimum):
     """LSPs whose gaps are all near the minimum."""
     start = rng.randrange(-2000, 30000)
-    return [min(start + i * minimum + rng.randrange(-20, 20), 32767) for i in range(10)]
+    return [min(start + i * minimum + rng.randrange(-20, 20), MOST) for i in range(LSPS)]
 
 
 def by_passes(rng, minimum, wanted, count):
@@ -153,37 +150,37 @@ def by_passes(rng, minimum, wanted, count):
 
 
 def ordered(rng):
-    return sorted(rng.randrange(32768) for _ in range(10))
+    return sorted(rng.randrange(MOST + 1) for _ in range(LSPS))
 
 
 def near_means(rng):
-    return [mean + rng.randrange(-1500, 1500) for mean in MEAN_LSPS]
+    return [mean + rng.randrange(-1500, 1500) for mean in MEAN]
 
 
 def close(rng):
     """All within a few hundred."""
-    start = rng.randrange(-32768, 32000)
-    return [start + rng.randrange(700) for _ in range(10)]
+    start = rng.randrange(LEAST, 32000)
+    return [start + rng.randrange(700) for _ in range(LSPS)]
 
 
 def swapped(rng):
     p = ordered(rng)
-    i = rng.randrange(9)
+    i = rng.randrange(LSPS - 1)
     p[i], p[i + 1] = p[i + 1], p[i]
     return p
 
 
 EXTREME = [
-    [-32768] * 10,
-    [32767] * 10,
-    [-32768, 32767] * 5,
-    [32767, -32768] * 5,
-    [-32768] * 5 + [32767] * 5,
-    [32767] * 5 + [-32768] * 5,
-    [-32768] * 9 + [32767],
-    [32767] + [-32768] * 9,
-    [0] * 10,
-    [-1] * 10,
+    [LEAST] * LSPS,
+    [MOST] * LSPS,
+    [LEAST, MOST] * 5,
+    [MOST, LEAST] * 5,
+    [LEAST] * 5 + [MOST] * 5,
+    [MOST] * 5 + [LEAST] * 5,
+    [LEAST] * 9 + [MOST],
+    [MOST] + [LEAST] * 9,
+    [0] * LSPS,
+    [-1] * LSPS,
     [-5, 0] * 5,
 ]
 
@@ -205,21 +202,21 @@ FLOORED = [
 def classes(rng):
     """Vectors of LSPs by class; those by passes are for one minimum each."""
     found = {
-        "random": [[spread16(rng) for _ in range(10)] for _ in range(60)],
+        "random": [[spread16(rng) for _ in range(LSPS)] for _ in range(60)],
         "ordered": [ordered(rng) for _ in range(60)],
-        "near the means": [near_means(rng) for _ in range(40)] + [MEAN_LSPS],
+        "near the means": [near_means(rng) for _ in range(40)] + [MEAN],
         "swapped": [swapped(rng) for _ in range(40)],
-        "equal": [[v] * 10 for v in EDGES16],
+        "equal": [[v] * LSPS for v in EDGES16],
         "descending": [ordered(rng)[::-1] for _ in range(20)] + [list(range(9000, -1000, -1000))],
         "close": [close(rng) for _ in range(20)],
         "extreme": EXTREME,
         "starred": [[1000, 1100] + list(range(2000, 10000, 1000))],
     }
     by_turns = {
-        "moved by one to eight passes": [(n, True) for n in range(1, 9)],
-        "moved by nine, so that the tenth finds none": [(9, True)],
-        "moved by all ten, and passed": [(10, True)],
-        "moved by all ten, and failed": [(10, False)],
+        "moved by one to eight passes": [(n, True) for n in range(1, PASSES - 1)],
+        "moved by nine, so that the tenth finds none": [(PASSES - 1, True)],
+        "moved by all ten, and passed": [(PASSES, True)],
+        "moved by all ten, and failed": [(PASSES, False)],
     }
     for minimum in MINIMA:
         for name, kinds in by_turns.items():
@@ -229,7 +226,7 @@ def classes(rng):
 
 
 def lsps(rng):
-    for f in [-32768, -32767, -129, -128, -127, -5, -1] + [128 * i + r for i in range(256) for r in (0, 1, 64, 127)]:
+    for f in [LEAST, LEAST + 1, -129, -128, -127, -5, -1] + [128 * i + r for i in range(256) for r in (0, 1, 64, 127)]:
         ask("cos_q14", f)
     by_class = classes(rng)
     vectors = [p for found in by_class.values() for p in found]
@@ -253,7 +250,7 @@ def lsps(rng):
     for a, b in pairs[::2]:
         for k in (0, 1, 2, 3):
             ask("lsp_interpolate", k, *a, *b)
-    for k in (4, 5, 32767):
+    for k in (4, 5, MOST):
         ask("lsp_interpolate", k, *plain[0], *plain[1])
 
 
@@ -261,22 +258,22 @@ def code_of(slots):
     """The code of ascending slots, to choose questions by."""
     code, start = 0, 0
     for k, slot in enumerate(slots):
-        code += sum(math.comb(29 - i, len(slots) - 1 - k) for i in range(start, slot))
+        code += sum(math.comb(SLOTS - 1 - i, len(slots) - 1 - k) for i in range(start, slot))
         start = slot + 1
     return code
 
 
 def codes(rng):
-    for n, limit in LIMITS.items():
+    for n, limit in CODE_LIMIT.items():
         # The first code of each first slot, and the limit.
-        changes = [limit - math.comb(30 - first, n) for first in range(31 - n)] + [limit]
+        changes = [limit - math.comb(SLOTS - first, n) for first in range(SLOTS + 1 - n)] + [limit]
         for c in [c + near for c in changes for near in (-1, 0, 1)] + LONG_CODES:
             if c >= 0:
                 ask("fcbk_unpk_positions", c, n)
         # At each weight that a code can meet, the last code below it and the first that is not: n - r slots, then slot i.
         for r in range(1, n + 1):
-            for i in range(n - r, 31 - r):
-                c = code_of(list(range(n - r)) + [i] + list(range(31 - r, 30)))
+            for i in range(n - r, SLOTS + 1 - r):
+                c = code_of(list(range(n - r)) + [i] + list(range(SLOTS + 1 - r, SLOTS)))
                 ask("fcbk_unpk_positions", c, n)
                 ask("fcbk_unpk_positions", c + 1, n)
         for _ in range(300):
@@ -289,45 +286,47 @@ MEETING = {5: [0, 9, 18, 20, 27], 6: [0, 9, 18, 27, 28, 29]}
 
 def description(rng, n):
     """Code, signs, grid, count and gain index of an accepted description."""
-    return rng.randrange(LIMITS[n]), rng.randrange(2**n), rng.randrange(2), n, rng.randrange(24)
+    return rng.randrange(CODE_LIMIT[n]), rng.randrange(2**n), rng.randrange(2), n, rng.randrange(GAIN_MOST + 1)
 
 
 def descriptions(rng):
     def vector(code, signs, grid, n, gain, train, lag):
         ask("mpmlq_fixed_vector", code, signs, grid, n, gain, train, lag)
 
-    vector(0, 0, 0, 5, 0, 1, 18)
-    for n, limit in LIMITS.items():
+    vector(0, 0, 0, 5, 0, 1, FIRST_LAG)
+    for n, limit in CODE_LIMIT.items():
         meeting = code_of(MEETING[n])
-        for lag in range(18, 58):
+        for lag in range(FIRST_LAG, TRAIN_LAG):
             for grid in (0, 1):
-                vector(rng.randrange(limit), rng.randrange(2**n), grid, n, rng.randrange(24), 1, lag)
-                vector(meeting, rng.randrange(2**n), grid, n, 23, 1, lag)
+                vector(rng.randrange(limit), rng.randrange(2**n), grid, n, rng.randrange(GAIN_MOST + 1), 1, lag)
+                vector(meeting, rng.randrange(2**n), grid, n, GAIN_MOST, 1, lag)
         # No sum is limited to 16 bits.
         for signs in (0, 2**n - 1):
-            vector(meeting, signs, 0, n, 23, 1, 18)
+            vector(meeting, signs, 0, n, GAIN_MOST, 1, FIRST_LAG)
         # Lags with a train that no accepted description has.
-        for lag in list(range(18)) + [58, 59, 60, 61, 119, 142, 145, 256 + 18, 2**16 + 18, 2**31 - 1]:
+        longer = [TRAIN_LAG, TRAIN_LAG + 1, SUB, SUB + 1, 2 * SUB - 1, LONGEST_LAG, LAST_BASE_LAG[1], 256 + FIRST_LAG, 2**16 + FIRST_LAG, 2**31 - 1]
+        for lag in list(range(FIRST_LAG)) + longer:
             vector(*description(rng, n), 1, lag)
             for grid in (0, 1):
-                vector(meeting, 0, grid, n, 23, 1, lag)
+                vector(meeting, 0, grid, n, GAIN_MOST, 1, lag)
         # Every sign byte; no accepted description has bits at the count and above.
         for signs in range(256):
             vector(meeting, signs, 0, n, 11, 0, 60)
-        for gain in range(24):
+        untrained = (FIRST_LAG, TRAIN_LAG - 1, TRAIN_LAG, LAST_BASE_LAG[1])
+        for gain in range(GAIN_MOST + 1):
             for grid in (0, 1):
-                vector(rng.randrange(limit), rng.randrange(2**n), grid, n, gain, 0, rng.choice((18, 57, 58, 145)))
+                vector(rng.randrange(limit), rng.randrange(2**n), grid, n, gain, 0, rng.choice(untrained))
         for code in [0, limit - 1, limit, limit + 1] + LONG_CODES:
             for train in (0, 1):
                 vector(code, 2**n - 1, 1, n, 5, train, 20)
         for _ in range(150):
-            vector(*description(rng, n), rng.randrange(2), rng.randrange(18, 58))
+            vector(*description(rng, n), rng.randrange(2), rng.randrange(FIRST_LAG, TRAIN_LAG))
 
 
 def main():
     rng = random.Random(7231)
     if "--codes" in sys.argv[1:]:
-        for n, limit in LIMITS.items():
+        for n, limit in CODE_LIMIT.items():
             for c in range(limit):
                 ask("fcbk_unpk_positions", c, n)
         return

@@ -9,14 +9,14 @@ Reading = collections.namedtuple("Reading", "name file fragment replacement says
 
 OPERATORS = [
     ("floor-truncates", "return x % by < 0 ? truncated - 1 : truncated;", "return truncated;", "every floor truncates"),
-    ("least-16-bits", "return limit(-32768, 32767, x);", "return limit(-32767, 32767, x);", "16 bits end at -32767"),
+    ("least-16-bits", "return limit(LEAST, MOST, x);", "return limit(LEAST + 1, MOST, x);", "16 bits end at -32767"),
     ("root-below", "if ((r + step) * (r + step) <= x)", "if ((r + step) * (r + step) < x)", "the root of a square is one less"),
 ]
 
 RECORD = [
     ("little-endian", "bytes[0] * 256 + bytes[1]", "bytes[1] * 256 + bytes[0]", "16-bit values are little-endian"),
     ("no-sign", "return value < 32768 ? value : value - 65536;", "return value;", "16-bit values have no sign"),
-    ("lag-code-17", "return record[code_at] + 18;", "return record[code_at] + 17;", "base lag is code + 17"),
+    ("lag-code-17", "return record[code_at] + FIRST_LAG;", "return record[code_at] + FIRST_LAG - 1;", "base lag is code + 17"),
     ("lag-a-thrice", "s < 2 ? BYTE_LAG_A : BYTE_LAG_B", "s < 3 ? BYTE_LAG_A : BYTE_LAG_B", "A serves subframe 2 too"),
     ("lags-in-turn", "s < 2 ? BYTE_LAG_A : BYTE_LAG_B", "s % 2 == 0 ? BYTE_LAG_A : BYTE_LAG_B", "A serves 0 and 2"),
     ("step-1-is-3", "STEP[record[BYTE_STEP_1]]", "STEP[record[BYTE_STEP_3]]", "one step code serves both"),
@@ -25,16 +25,16 @@ RECORD = [
 ]
 
 NUMBERS = [
-    ("bound-excitation", "AT_EXCITATION, PAST, -32768, 32767", "AT_EXCITATION, PAST, -32767, 32767", "excitation from -32767"),
-    ("bound-history", "AT_EXCITATION, PAST, -32768", "AT_EXCITATION, PAST - 1, -32768", "the newest excitation is not tested"),
-    ("bound-synthesis", "AT_SYNTHESIS, LSPS, -32768, 32767", "AT_SYNTHESIS, LSPS, -32768, 32768", "synthesis to 32768"),
-    ("bound-gain", "AT_GAIN, 1, 0, 1048576", "AT_GAIN, 1, 0, 1048575", "gain below 1,048,576"),
-    ("bound-gain-least", "AT_GAIN, 1, 0, 1048576", "AT_GAIN, 1, 1, 1048576", "gain from 1"),
-    ("bound-lag", "AT_LAG, 1, 17, 147", "AT_LAG, 1, 18, 147", "last lag from 18"),
-    ("bound-lag-most", "AT_LAG, 1, 17, 147", "AT_LAG, 1, 17, 145", "last lag to 145"),
-    ("bound-base-lag", "AT_BASE_LAG, 1, 18, 145", "AT_BASE_LAG, 1, 18, 142", "last base lag to 142"),
-    ("bound-tap-sum", "AT_TAP_SUM, 1, 0, 32767", "AT_TAP_SUM, 1, -1, 32767", "tap sum from -1"),
-    ("bound-unvoiced", "AT_UNVOICED_GAIN, 1, 0, 13246", "AT_UNVOICED_GAIN, 1, 0, 13247", "unvoiced gain to 13247"),
+    ("bound-excitation", "AT_EXCITATION, PAST, LEAST, MOST", "AT_EXCITATION, PAST, LEAST + 1, MOST", "excitation from -32767"),
+    ("bound-history", "AT_EXCITATION, PAST, LEAST", "AT_EXCITATION, PAST - 1, LEAST", "the newest excitation is not tested"),
+    ("bound-synthesis", "AT_SYNTHESIS, LSPS, LEAST, MOST", "AT_SYNTHESIS, LSPS, LEAST, MOST + 1", "synthesis to 32768"),
+    ("bound-gain", "AT_GAIN, 1, 0, MOST_GAIN", "AT_GAIN, 1, 0, MOST_GAIN - 1", "gain below 1,048,576"),
+    ("bound-gain-least", "AT_GAIN, 1, 0, MOST_GAIN", "AT_GAIN, 1, 1, MOST_GAIN", "gain from 1"),
+    ("bound-lag", "AT_LAG, 1, LEAST_LAST_LAG, MOST_LAST_LAG", "AT_LAG, 1, SHORTEST_LAG, MOST_LAST_LAG", "last lag from 18"),
+    ("bound-lag-most", "AT_LAG, 1, LEAST_LAST_LAG, MOST_LAST_LAG", "AT_LAG, 1, LEAST_LAST_LAG, MOST_BASE_LAG", "last lag to 145"),
+    ("bound-base-lag", "AT_BASE_LAG, 1, LEAST_BASE_LAG, MOST_BASE_LAG", "AT_BASE_LAG, 1, LEAST_BASE_LAG, LONGEST_LAG", "last base lag to 142"),
+    ("bound-tap-sum", "AT_TAP_SUM, 1, 0, MOST_TAP_SUM", "AT_TAP_SUM, 1, -1, MOST_TAP_SUM", "tap sum from -1"),
+    ("bound-unvoiced", "AT_UNVOICED_GAIN, 1, 0, MOST_UNVOICED_GAIN", "AT_UNVOICED_GAIN, 1, 0, MOST_UNVOICED_GAIN + 1", "unvoiced gain to 13247"),
     ("kind-3", "if (record[0] > LOW)", "if (record[0] > LOW + 1)", "kind 3 exists"),
     (
         "erased-long",
@@ -43,16 +43,26 @@ NUMBERS = [
         "an erased record may be longer",
     ),
     ("longer", "if (length != record_length(record[0]))", "if (length < record_length(record[0]))", "longer records are cut"),
-    ("code-a-alone", "record[BYTE_LAG_A] > 127 || record[BYTE_LAG_B] > 127", "record[BYTE_LAG_A] > 127", "6 asks A alone"),
-    ("code-b-alone", "record[BYTE_LAG_A] > 127 || record[BYTE_LAG_B] > 127", "record[BYTE_LAG_B] > 127", "6 asks B alone"),
-    ("code-127", "record[BYTE_LAG_A] > 127 ||", "record[BYTE_LAG_A] > 126 ||", "code 127 gives 6"),
-    ("code-lag-142", "record[BYTE_LAG_B] > 127", "record[BYTE_LAG_B] > 124", "6 at the longest lag"),
-    ("step-3-refused", "record[BYTE_STEP_1] > 3 ||", "record[BYTE_STEP_1] > 2 ||", "step 3 gives 7"),
-    ("gain-23", "[BLOCK_GAIN] > 23", "[BLOCK_GAIN] > 22", "gain index 23 gives 8"),
-    ("flags-7", "if (flags > 3)", "if (flags > 7)", "9 from flags 8 on"),
-    ("flags-2", "if (flags > 3)", "if (flags > 2)", "flags 3 give 9"),
-    ("train-57", "base_lag_of(record, s) >= 58", "base_lag_of(record, s) >= 57", "a train at 57 gives 9"),
-    ("train-59", "base_lag_of(record, s) >= 58", "base_lag_of(record, s) >= 59", "a train at 58 is accepted"),
+    (
+        "code-a-alone",
+        "record[BYTE_LAG_A] > MOST_LAG_CODE || record[BYTE_LAG_B] > MOST_LAG_CODE",
+        "record[BYTE_LAG_A] > MOST_LAG_CODE",
+        "6 asks A alone",
+    ),
+    (
+        "code-b-alone",
+        "record[BYTE_LAG_A] > MOST_LAG_CODE || record[BYTE_LAG_B] > MOST_LAG_CODE",
+        "record[BYTE_LAG_B] > MOST_LAG_CODE",
+        "6 asks B alone",
+    ),
+    ("code-127", "record[BYTE_LAG_A] > MOST_LAG_CODE ||", "record[BYTE_LAG_A] > MOST_LAG_CODE - 1 ||", "code 127 gives 6"),
+    ("code-lag-142", "record[BYTE_LAG_B] > MOST_LAG_CODE", "record[BYTE_LAG_B] > LONGEST_LAG - FIRST_LAG", "6 past the longest lag"),
+    ("step-3-refused", "record[BYTE_STEP_1] > MOST_STEP ||", "record[BYTE_STEP_1] > MOST_STEP - 1 ||", "step 3 gives 7"),
+    ("gain-23", "[BLOCK_GAIN] > MOST_GAIN_INDEX", "[BLOCK_GAIN] > MOST_GAIN_INDEX - 1", "gain index 23 gives 8"),
+    ("flags-7", "if (flags > MOST_FLAGS)", "if (flags > 7)", "9 from flags 8 on"),
+    ("flags-2", "if (flags > MOST_FLAGS)", "if (flags > MOST_FLAGS - 1)", "flags 3 give 9"),
+    ("train-57", "base_lag_of(record, s) >= LONG_BASE_LAG", "base_lag_of(record, s) >= LONG_BASE_LAG - 1", "a train at 57 gives 9"),
+    ("train-59", "base_lag_of(record, s) >= LONG_BASE_LAG", "base_lag_of(record, s) >= LONG_BASE_LAG + 1", "a train at 58 is accepted"),
     ("train-own-lag", "flags >= 2 && base_lag_of(record, s)", "flags >= 2 && lag_of(record, s)", "9 asks the subframe's own lag"),
     ("signs-above", "[BLOCK_SIGNS] >= 1 << PULSES[s]", "[BLOCK_SIGNS] > 1 << PULSES[s]", "the sign bit at the count alone is accepted"),
     ("signs-six", "[BLOCK_SIGNS] >= 1 << PULSES[s]", "[BLOCK_SIGNS] >= 1 << 6", "six signs in every subframe"),
@@ -62,14 +72,14 @@ NUMBERS = [
     ("order-4-5", "    if (record[0] > LOW)\n", "    if (length != record_length(record[0])) return 5;\n    if (record[0] > LOW)\n", "5 before 4"),
     (
         "order-6-7",
-        "    if (record[BYTE_LAG_A] > 127",
-        "    if (record[BYTE_STEP_1] > 3 || record[BYTE_STEP_3] > 3) return 7;\n    if (record[BYTE_LAG_A] > 127",
+        "    if (record[BYTE_LAG_A] > MOST_LAG_CODE",
+        "    if (record[BYTE_STEP_1] > MOST_STEP || record[BYTE_STEP_3] > MOST_STEP) return 7;\n    if (record[BYTE_LAG_A] > MOST_LAG_CODE",
         "7 before 6",
     ),
     (
         "order-7-8",
-        "    if (record[BYTE_STEP_1] > 3",
-        "    if (any_subframe(record, gain_refused)) return 8;\n    if (record[BYTE_STEP_1] > 3",
+        "    if (record[BYTE_STEP_1] > MOST_STEP",
+        "    if (any_subframe(record, gain_refused)) return 8;\n    if (record[BYTE_STEP_1] > MOST_STEP",
         "8 before 7",
     ),
     (
@@ -111,8 +121,6 @@ LSPS = [
     ("moves-wrap", "lsp[i] = limit16(middle - minimum / 2);", "lsp[i] = (int16_t)(middle - minimum / 2);", "the lower LSP wraps"),
     ("moves-wrap-up", "lsp[i + 1] = limit16(middle + minimum / 2);", "lsp[i + 1] = (int16_t)(middle + minimum / 2);", "the upper LSP wraps"),
     ("high-to-low", "for (int i = 0; i + 1 < LSPS; i++) {", "for (int i = LSPS - 2; i >= 0; i--) {", "pairs from high to low"),
-    ("nine-passes", "PASSES = 10,", "PASSES = 9,", "nine passes"),
-    ("eleven-passes", "PASSES = 10,", "PASSES = 11,", "eleven passes"),
     ("last-pass-decides", "if (gaps_kept(f->lsp, minimum))", "if (pass < PASSES)", "ten passes with moves give way without a test"),
     ("no-previous", "if (gaps_kept(f->lsp, minimum))", "if (1)", "never the previous LSPs"),
     ("mean-for-previous", "        f->lsp[i] = f->old_lsp[i];", "        f->lsp[i] = MEAN_LSP[i];", "the mean LSPs where the previous ones are due"),
@@ -148,7 +156,7 @@ LSPS = [
 PULSES = [
     ("limit-accepted", "if (code >= codes)", "if (code > codes)", "the code at the limit has slots"),
     ("no-slots-early", "if (code >= codes)", "if (code >= codes - 1)", "no slots just below the limit"),
-    ("limit-of-six", "pulses == 6 ? 593775 : 142506", "pulses == 6 ? 593775 : 593775", "one limit for five and six"),
+    ("limit-of-six", "? CODES_OF_SIX : CODES_OF_FIVE", "? CODES_OF_SIX : CODES_OF_SIX", "one limit for five and six"),
     ("weight-r", "choose(SLOTS - 1 - slot, wanted - 1)", "choose(SLOTS - 1 - slot, wanted)", "the weight chooses r"),
     ("weight-reached", "if (code < weight)", "if (code <= weight)", "a code at the weight puts a pulse"),
     (
@@ -193,10 +201,6 @@ PULSES = [
 ]
 
 ADAPTIVE = [
-    ("longest-143", "LONGEST_LAG = 142,", "LONGEST_LAG = 143,", "the longest lag is 143"),
-    ("longest-141", "LONGEST_LAG = 142,", "LONGEST_LAG = 141,", "the longest lag is 141"),
-    ("shortest-17", "SHORTEST_LAG = 18,", "SHORTEST_LAG = 17,", "the shortest lag is 17"),
-    ("shortest-20", "SHORTEST_LAG = 18,", "SHORTEST_LAG = 20,", "the shortest lag is 20"),
     (
         "excited-at-base",
         "limit(SHORTEST_LAG, LONGEST_LAG, lag_of(record, s))",
@@ -223,10 +227,10 @@ ADAPTIVE = [
     ),
     ("no-repetition", "start[k % lag - lag]", "0", "past the lag nothing is read"),
     ("tap-sum-of-2", "taps += word(block_of(record, 3)", "taps += word(block_of(record, 2)", "the tap sum is subframe 2's"),
-    ("tap-sum-plain", "limit(0, 32767, 2 * taps)", "limit(0, 32767, taps)", "the tap sum is not doubled"),
-    ("tap-sum-16384ths", "limit(0, 32767, 2 * taps)", "2 * limit(0, 16383, taps)", "the tap sum is limited before it is doubled"),
-    ("tap-sum-unlimited", "limit(0, 32767, 2 * taps)", "limit(0, 65535, 2 * taps)", "the tap sum has no upper limit"),
-    ("tap-sum-signed", "limit(0, 32767, 2 * taps)", "limit(-32768, 32767, 2 * taps)", "the tap sum may be negative"),
+    ("tap-sum-plain", "limit(0, MOST_TAP_SUM, 2 * taps)", "limit(0, MOST_TAP_SUM, taps)", "the tap sum is not doubled"),
+    ("tap-sum-16384ths", "limit(0, MOST_TAP_SUM, 2 * taps)", "2 * limit(0, MOST_TAP_SUM / 2, taps)", "the tap sum is limited before it is doubled"),
+    ("tap-sum-unlimited", "limit(0, MOST_TAP_SUM, 2 * taps)", "limit(0, 65535, 2 * taps)", "the tap sum has no upper limit"),
+    ("tap-sum-signed", "limit(0, MOST_TAP_SUM, 2 * taps)", "limit(LEAST, MOST_TAP_SUM, 2 * taps)", "the tap sum may be negative"),
     (
         "unvoiced-3-alone",
         "(doubled_gain(block_of(record, 2)) + doubled_gain(block_of(record, 3))) / 2",
@@ -253,7 +257,7 @@ PITCH = [
     (
         "centre-free",
         "int64_t centre = limit(SHORTEST_LAG, LONGEST_LAG, base_lag);",
-        "int64_t centre = limit(SHORTEST_LAG, 143, base_lag);",
+        "int64_t centre = limit(SHORTEST_LAG, LONGEST_LAG + 1, base_lag);",
         "the search's centre goes on to 143",
     ),
     ("forward-short", "direction > 0 && lag > room", "direction > 0 && lag >= room", "the last forward lag in the frame is skipped"),
@@ -323,7 +327,7 @@ PITCH = [
     (
         "pitch-erased",
         "    settle_lsps(f, 512);",
-        "    settle_lsps(f, 512); drive_by_excitation(f); { unsigned char r[25] = {HIGH}; r[21] = r[23] = (unsigned char)(f->base_lag - 18); for (int s = 0; s < SUBFRAMES && f->postfilter; s++) pitch_postfilter(f, r, s); } speak(f); return;",
+        "    settle_lsps(f, 512); drive_by_excitation(f); { unsigned char r[BYTE_BLOCKS] = {HIGH}; r[BYTE_LAG_A] = r[BYTE_LAG_B] = (unsigned char)(f->base_lag - FIRST_LAG); for (int s = 0; s < SUBFRAMES && f->postfilter; s++) pitch_postfilter(f, r, s); } speak(f); return;",
         "the pitch postfilter runs on erased frames",
     ),
 ]
@@ -387,7 +391,7 @@ FORMANT = [
     ("silent-target", "        return 4096;\n", "        return 0;\n", "silence pulls the gain to 0"),
     (
         "target-unlimited",
-        "limit(0, 1048576, root((int64_t)((wide)energy_in * (1 << 24) / energy_out)))",
+        "limit(0, MOST_GAIN, root((int64_t)((wide)energy_in * (1 << 24) / energy_out)))",
         "limit(0, 1 << 30, root((int64_t)((wide)energy_in * (1 << 24) / energy_out)))",
         "the gain's target is not limited",
     ),
@@ -419,6 +423,12 @@ ERASURE = [
     ("voicing-by-c", "return (wide)c * c * (1 << 30) / ((wide)e * t);", "return c;", "ranks by c alone"),
     ("rank-24-bits", "return (wide)c * c * (1 << 30) / ((wide)e * t);", "return (wide)c * c * (1 << 24) / ((wide)e * t);", "ranks in 2^24ths"),
     ("rank-36-bits", "return (wide)c * c * (1 << 30) / ((wide)e * t);", "return (wide)c * c * (1LL << 36) / ((wide)e * t);", "ranks in 2^36ths"),
+    (
+        "rank-exact",
+        "return (wide)c * c * (1 << 30) / ((wide)e * t);",
+        "wide rest = (wide)c * c, parts = 0; for (int i = 0; i < 4; i++) { parts = parts * (1 << 30) + rest * (1 << 30) / ((wide)e * t); rest = rest * (1 << 30) % ((wide)e * t); } return parts;",
+        "ranks by quotients of 120 bits, as good as exact",
+    ),
     (
         "rank-without-t",
         "return (wide)c * c * (1 << 30) / ((wide)e * t);",
@@ -539,20 +549,29 @@ TABLES = [
     ("attenuation-order", "    24576, 18432, 13824\n", "    13824, 18432, 24576\n", "attenuation in the other order"),
     (
         "previous-4-3-2-1",
-        "    3, 2, 1, 0\n};\n\n/* Document 01, \"LSPs\": quarters of the current LSPs in each subframe. */\nstatic const int64_t CURRENT_QUARTERS[4] = {\n    1, 2, 3, 4\n",
-        "    4, 3, 2, 1\n};\n\nstatic const int64_t CURRENT_QUARTERS[4] = {\n    0, 1, 2, 3\n",
+        "    3, 2, 1, 0\n};\n\n/* Document 01, \"LSPs\": quarters of the current LSPs in each subframe. */\nstatic const int64_t CURRENT_QUARTERS[SUBFRAMES] = {\n    1, 2, 3, 4\n",
+        "    4, 3, 2, 1\n};\n\nstatic const int64_t CURRENT_QUARTERS[SUBFRAMES] = {\n    0, 1, 2, 3\n",
         "the weights of the subframe before",
     ),
 ]
 
-PROGRAM = [
+PLACES = [
+    ("nine-passes", "PASSES = 10,", "PASSES = 9,", "nine passes"),
+    ("eleven-passes", "PASSES = 10,", "PASSES = 11,", "eleven passes"),
+    ("longest-143", "LONGEST_LAG = 142,", "LONGEST_LAG = 143,", "the longest lag is 143"),
+    ("longest-141", "LONGEST_LAG = 142,", "LONGEST_LAG = 141,", "the longest lag is 141"),
+    ("shortest-17", "SHORTEST_LAG = 18,", "SHORTEST_LAG = 17,", "the shortest lag is 17"),
+    ("shortest-20", "SHORTEST_LAG = 18,", "SHORTEST_LAG = 20,", "the shortest lag is 20"),
     ("longest-1096", "LONGEST_LINE = 1098,", "LONGEST_LINE = 1096,", "1,098 characters are too long"),
     ("longest-1100", "LONGEST_LINE = 1098,", "LONGEST_LINE = 1100,", "1,100 characters are not too long"),
+]
+
+PROGRAM = [
     ("long-lines-cut", "LONGEST_LINE + 1 - line->length", "LONGEST_LINE - line->length", "an over-long line is cut"),
     (
         "long-is-5",
         "    if (read_pairs(line, record))",
-        "    if (line->length > 1098) number = 5; else if (read_pairs(line, record))",
+        "    if (line->length > LONGEST_LINE) number = 5; else if (read_pairs(line, record))",
         "an over-long line has a wrong length, 5",
     ),
     (
@@ -625,17 +644,17 @@ PROGRAM = [
     (
         "r11-erased",
         "    if (number == 0)\n",
-        "    if (number == NOT_A_RECORD) second_decode(state, (const unsigned char *)\"\", 1, samples, SAMPLES);\n    if (number == 0)\n",
+        "    if (number == NOT_A_RECORD) second_decode(state, (const unsigned char *)\"\", 1, samples, FRAME);\n    if (number == 0)\n",
         "a line that is no record changes the state like an erased frame",
     ),
     (
         "refused-erased",
         "    if (number == 0)\n",
-        "    if (number > 0 && number < 11) second_decode(state, (const unsigned char *)\"\", 1, samples, SAMPLES);\n    if (number == 0)\n",
+        "    if (number > 0 && number < NOT_A_RECORD) second_decode(state, (const unsigned char *)\"\", 1, samples, FRAME);\n    if (number == 0)\n",
         "a refused record changes the state like an erased frame",
     ),
 ]
 
 DECODER = OPERATORS + RECORD + NUMBERS + LSPS + PULSES + ADAPTIVE + PITCH + SYNTHESIS + FORMANT + ERASURE + FRAME
-FILES = {"decoder.c": DECODER, "tables.h": TABLES, "frames.c": PROGRAM}
+FILES = {"decoder.c": DECODER, "tables.h": TABLES, "places.h": PLACES, "frames.c": PROGRAM}
 READINGS = [Reading(name, file, *rest) for file, rows in FILES.items() for name, *rest in rows]

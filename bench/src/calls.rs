@@ -2,9 +2,10 @@
 
 use std::fs;
 
+use crate::places::*;
 use crate::qdec::mpmlq_fixed_vector;
 use crate::random::Random;
-use crate::spec_tables::{MPMLQ_MAX_POSITION, fixed_codebook_gain};
+use crate::spec_tables::fixed_codebook_gain;
 
 pub type Records = Vec<Vec<u8>>;
 
@@ -24,7 +25,7 @@ pub fn all(samples: &str) -> Result<Vec<(&'static str, Records)>, String> {
         ("High", high),
         ("Low", low),
         ("mixed", mixed),
-        ("erased", message.iter().flat_map(|record| [record.clone(), vec![0], vec![0], vec![0]]).collect()),
+        ("erased", message.iter().flat_map(|record| [record.clone(), vec![ERASED], vec![ERASED], vec![ERASED]]).collect()),
         ("message", repeated(&message)),
         ("message lost", repeated(&lost)),
     ])
@@ -41,26 +42,28 @@ fn read(file: &str) -> Result<Records, String> {
 /// The frame with other pulses of the same gains: its positions and signs are drawn anew.
 fn other_pulses(random: &mut Random, record: &[u8]) -> Vec<u8> {
     let mut out = record.to_vec();
-    for s in 0..4 {
-        let block = &mut out[25 + 16 * s..][..16];
-        block[12] = random.below([64, 32][s % 2]) as u8;
-        block[13..].copy_from_slice(&random.below(MPMLQ_MAX_POSITION[s]).to_be_bytes()[1..]);
+    for s in 0..SUBFRAMES {
+        let block = &mut out[BYTE_BLOCKS + HIGH_BLOCK * s..][..HIGH_BLOCK];
+        block[BLOCK_SIGNS] = random.below(1 << PULSES[s]) as u8;
+        block[BLOCK_CODE..].copy_from_slice(&random.below(CODE_LIMITS[s]).to_be_bytes()[1..]);
     }
     out
 }
 
 /// The same frame at the low rate: its fixed vectors as sixty values each.
 fn to_low(record: &[u8]) -> Vec<u8> {
-    let mut out = record[..25].to_vec();
-    out[0] = 2;
-    for s in 0..4 {
-        let block = &record[25 + 16 * s..][..16];
-        let gain = fixed_codebook_gain(block[10]).expect("the gain index is below 24") << 1;
-        let code = u32::from_be_bytes([0, block[13], block[14], block[15]]);
-        let (grid, train) = (block[11] & 1, block[11] & 2 != 0);
-        let lag = i32::from(record[21 + s / 2 * 2]) + 18;
-        let vector = mpmlq_fixed_vector(code, u32::from(block[12]), grid, [6, 5][s % 2], gain, train, lag);
-        out.extend(&block[..11]);
+    let mut out = record[..BYTE_BLOCKS].to_vec();
+    out[0] = LOW;
+    for s in 0..SUBFRAMES {
+        let block = &record[BYTE_BLOCKS + HIGH_BLOCK * s..][..HIGH_BLOCK];
+        let gain = fixed_codebook_gain(block[BLOCK_GAIN]).expect("the gain index has a gain") << 1;
+        let code = &block[BLOCK_CODE..];
+        let code = u32::from_be_bytes([0, code[0], code[1], code[2]]);
+        let (grid, train) = (block[BLOCK_FLAGS] & GRID, block[BLOCK_FLAGS] & TRAIN != 0);
+        let lag = i32::from(record[lag_place(s)]) + FIRST_LAG as i32;
+        let signs = u32::from(block[BLOCK_SIGNS]);
+        let vector = mpmlq_fixed_vector(code, signs, grid, PULSES[s] as usize, gain, train, lag);
+        out.extend(&block[..BLOCK_VALUES]);
         out.extend(vector.iter().flat_map(|x| (*x as i16).to_be_bytes()));
     }
     out
@@ -74,7 +77,7 @@ fn mix(random: &mut Random, high: &Records, low: &Records) -> Records {
         is_low ^= random.below(20) == 0;
         erased = random.below(8) < if erased { 5 } else { 1 };
         out.push(match (erased, is_low) {
-            (true, _) => vec![0],
+            (true, _) => vec![ERASED],
             (false, true) => low[i].clone(),
             (false, false) => high[i].clone(),
         });

@@ -7,11 +7,12 @@ use std::time::Instant;
 use crate::calls::{self, Records};
 use crate::numbers::Numbers;
 use crate::ours::Ours;
+use crate::places::FRAME;
 use crate::qdec::QSynthesis;
 use crate::qdec::driver::state;
 use crate::{record, rounds};
 
-/// Records from a state, as its 315 numbers.
+/// Records from a state, as its numbers.
 struct Run {
     start: Vec<i128>,
     records: Records,
@@ -60,7 +61,7 @@ fn check(name: &str, runs: &[Run]) -> Result<(), String> {
     for run in runs {
         let (mut ours, mut rust) = (Ours::from_numbers(&run.start), rust_state(run));
         for (i, bytes) in run.records.iter().enumerate() {
-            let mut samples = [0; 240];
+            let mut samples = [0; FRAME];
             let number = ours.decode(bytes, &mut samples);
             if number != 0 || record::decode(&mut rust, bytes) != Ok(samples) {
                 return Err(format!("{name}: record {i} has other samples, or number {number}"));
@@ -76,7 +77,7 @@ fn check(name: &str, runs: &[Run]) -> Result<(), String> {
 /// Seconds for all runs, without setting up their states.
 fn ours_time(runs: &[Run]) -> f64 {
     let mut states: Vec<Ours> = runs.iter().map(|run| Ours::from_numbers(&run.start)).collect();
-    let mut samples = [0; 240];
+    let mut samples = [0; FRAME];
     let start = Instant::now();
     for (state, run) in states.iter_mut().zip(runs) {
         for bytes in &run.records {

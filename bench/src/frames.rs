@@ -3,12 +3,13 @@
 
 use std::io::{self, BufRead, BufReader, BufWriter, Write};
 
+use crate::places::{FRAME, LONGEST_LINE, NOT_A_RECORD};
 use crate::qdec::QSynthesis;
 use crate::qdec::driver::state;
 use crate::record;
 
-/// The longest line that can be a record.
-const LONGEST: usize = 1_098;
+/// Four digits a sample and the newline.
+const ANSWER: usize = 4 * FRAME + 1;
 const BUFFER: usize = 1 << 16;
 /// What is no digit.
 const NONE: u8 = 255;
@@ -19,7 +20,7 @@ pub fn run() -> io::Result<()> {
     let mut output = BufWriter::with_capacity(BUFFER, io::stdout().lock());
     let (values, pairs) = (values(), pairs());
     let mut state = state::fresh(true);
-    let mut counts = [0u64; 12];
+    let mut counts = [0u64; NOT_A_RECORD as usize + 1];
     let mut line = Vec::new();
     while input.read_until(b'\n', &mut line)? > 0 {
         if line.last() == Some(&b'\n') {
@@ -56,24 +57,24 @@ fn pairs() -> [[u8; 2]; 256] {
 }
 
 /// The samples for one line without its newline, or the number of the refusal.
-fn answer(state: &mut QSynthesis, line: &[u8], values: &[u8; 256]) -> Result<[i16; 240], u8> {
-    let mut bytes = [0; LONGEST / 2];
-    if line.len() > LONGEST || line.len() % 2 != 0 {
-        return Err(11);
+fn answer(state: &mut QSynthesis, line: &[u8], values: &[u8; 256]) -> Result<[i16; FRAME], u8> {
+    let mut bytes = [0; LONGEST_LINE / 2];
+    if line.len() > LONGEST_LINE || line.len() % 2 != 0 {
+        return Err(NOT_A_RECORD);
     }
     for (byte, pair) in bytes.iter_mut().zip(line.chunks_exact(2)) {
         let (high, low) = (values[usize::from(pair[0])], values[usize::from(pair[1])]);
         if high == NONE || low == NONE {
-            return Err(11);
+            return Err(NOT_A_RECORD);
         }
         *byte = high << 4 | low;
     }
     record::decode(state, &bytes[..line.len() / 2])
 }
 
-/// Four digits a sample and the newline.
-fn text(samples: &[i16; 240], pairs: &[[u8; 2]; 256]) -> [u8; 961] {
-    let mut out = [b'\n'; 961];
+/// The line of a frame.
+fn text(samples: &[i16; FRAME], pairs: &[[u8; 2]; 256]) -> [u8; ANSWER] {
+    let mut out = [b'\n'; ANSWER];
     for (digits, sample) in out.chunks_exact_mut(4).zip(samples) {
         let [high, low] = sample.to_be_bytes().map(|byte| pairs[usize::from(byte)]);
         digits[..2].copy_from_slice(&high);

@@ -11,6 +11,9 @@ mod numbers;
 #[path = "../../tests/compare/src/ours.rs"]
 mod ours;
 #[allow(dead_code)]
+#[path = "../../tests/oracle/src/places.rs"]
+mod places;
+#[allow(dead_code)]
 #[path = "../../tests/oracle/src/random.rs"]
 mod random;
 #[path = "../../tests/oracle/src/record.rs"]

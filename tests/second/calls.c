@@ -4,7 +4,7 @@
  * many bytes as the third field says:
  *
  *   F   a fresh state, with the postfilter if the first field is 1
- *   S   a state: its 315 numbers, four bytes each
+ *   S   a state: its numbers, four bytes each
  *   D   a record: the first field is the length of the samples, each of which is the second field before
  *
  * The answer is a number and the checksums of the samples and of the state. At a line that is none it ends with `?`.
@@ -14,7 +14,7 @@
 
 #include "decoder.h"
 
-enum { LONGEST = 1 << 16, AT_RUN = 313 };
+enum { LONGEST = 1 << 16 };
 
 /* What a line holds, with all the bytes that its third field can ask for. */
 struct line {
@@ -26,7 +26,7 @@ struct line {
 };
 
 static struct line line;
-static int64_t state[SECOND_STATE];
+static int64_t state[STATE_NUMBERS];
 static int64_t samples[LONGEST];
 
 /* A polynomial in 1000003 modulo the prime 2^43 - 57, so that each number and its place count. */
@@ -78,8 +78,8 @@ static int answer(void)
     size_t length = 0;
     if (line.letter == 'F') {
         second_fresh(state, line.first == 1);
-    } else if (line.letter == 'S' && line.count == 4 * SECOND_STATE) {
-        for (int k = 0; k < SECOND_STATE; k++)
+    } else if (line.letter == 'S' && line.count == 4 * STATE_NUMBERS) {
+        for (int k = 0; k < STATE_NUMBERS; k++)
             state[k] = number_at(k);
     } else if (line.letter == 'D') {
         number = decode();
@@ -87,7 +87,7 @@ static int answer(void)
     } else {
         return 0;
     }
-    printf("%d %lld %lld\n", number, (long long)checksum(samples, length), (long long)checksum(state, SECOND_STATE));
+    printf("%d %lld %lld\n", number, (long long)checksum(samples, length), (long long)checksum(state, STATE_NUMBERS));
     return 1;
 }
 

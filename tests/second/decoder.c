@@ -7,63 +7,6 @@
 #include "decoder.h"
 #include "tables.h"
 
-enum {
-    LSPS = 10,
-    SUBFRAMES = 4,
-    SUBFRAME = 60,
-    FRAME = 240,
-    PAST = 146,
-    TAPS = 5,
-    SLOTS = 30,
-    MOST_PULSES = 6,
-    SHORTEST_LAG = 18,
-    LONGEST_LAG = 142,
-    PASSES = 10,
-    HEARD_ERASED = 3,
-    TAIL = 120
-};
-
-enum { ERASED = 0, HIGH = 1, LOW = 2 };
-
-/* Places in the state. */
-enum {
-    AT_LSP = 0,
-    AT_EXCITATION = 10,
-    AT_SYNTHESIS = 156,
-    AT_ZEROS = 166,
-    AT_POLES = 176,
-    AT_TILT_BEFORE = 186,
-    AT_TILT = 187,
-    AT_GAIN = 188,
-    AT_LAG = 189,
-    AT_BASE_LAG = 190,
-    AT_TAP_SUM = 191,
-    AT_UNVOICED_GAIN = 192,
-    AT_TAIL = 193,
-    AT_RUN = 313,
-    AT_POSTFILTER = 314
-};
-
-/* Places in a received record. */
-enum {
-    BYTE_LSP = 1,
-    BYTE_LAG_A = 21,
-    BYTE_STEP_1 = 22,
-    BYTE_LAG_B = 23,
-    BYTE_STEP_3 = 24,
-    BYTE_BLOCKS = 25
-};
-
-/* Places in a block. */
-enum {
-    BLOCK_TAPS = 0,
-    BLOCK_GAIN = 10,
-    BLOCK_FLAGS = 11,
-    BLOCK_SIGNS = 12,
-    BLOCK_CODE = 13,
-    BLOCK_VALUES = 11
-};
-
 typedef __int128 wide;
 
 /* One frame: signals over time, and the numbers of the state that it reads or changes. */
@@ -110,7 +53,7 @@ static int64_t limit(int64_t lo, int64_t hi, int64_t x)
 /* "Operators": the limit of 16 bits. */
 static int64_t limit16(int64_t x)
 {
-    return limit(-32768, 32767, x);
+    return limit(LEAST, MOST, x);
 }
 
 /* "Operators": the floor of a quotient, for a divisor above 0. */
@@ -141,8 +84,8 @@ static int64_t word(const unsigned char *bytes)
 static int64_t block_length(int kind)
 {
     if (kind == HIGH)
-        return 16;
-    return 131;
+        return HIGH_BLOCK;
+    return LOW_BLOCK;
 }
 
 /* "The record": the length of a record. */
@@ -163,7 +106,7 @@ static const unsigned char *block_of(const unsigned char *record, int s)
 static int64_t base_lag_of(const unsigned char *record, int s)
 {
     int code_at = s < 2 ? BYTE_LAG_A : BYTE_LAG_B;
-    return record[code_at] + 18;
+    return record[code_at] + FIRST_LAG;
 }
 
 /* "The record": a subframe's own lag. */
@@ -189,29 +132,29 @@ static int within(const int64_t *state, int at, int count, int64_t lo, int64_t h
 static int state_in_bounds(const int64_t *state)
 {
     int good = 1;
-    good &= within(state, AT_EXCITATION, PAST, -32768, 32767);
-    good &= within(state, AT_SYNTHESIS, LSPS, -32768, 32767);
-    good &= within(state, AT_GAIN, 1, 0, 1048576);
-    good &= within(state, AT_LAG, 1, 17, 147);
-    good &= within(state, AT_BASE_LAG, 1, 18, 145);
-    good &= within(state, AT_TAP_SUM, 1, 0, 32767);
-    good &= within(state, AT_UNVOICED_GAIN, 1, 0, 13246);
+    good &= within(state, AT_EXCITATION, PAST, LEAST, MOST);
+    good &= within(state, AT_SYNTHESIS, LSPS, LEAST, MOST);
+    good &= within(state, AT_GAIN, 1, 0, MOST_GAIN);
+    good &= within(state, AT_LAG, 1, LEAST_LAST_LAG, MOST_LAST_LAG);
+    good &= within(state, AT_BASE_LAG, 1, LEAST_BASE_LAG, MOST_BASE_LAG);
+    good &= within(state, AT_TAP_SUM, 1, 0, MOST_TAP_SUM);
+    good &= within(state, AT_UNVOICED_GAIN, 1, 0, MOST_UNVOICED_GAIN);
     return good;
 }
 
 /* "The ten numbers", 8: a gain index that has no gain. */
 static int gain_refused(const unsigned char *record, int s)
 {
-    return block_of(record, s)[BLOCK_GAIN] > 23;
+    return block_of(record, s)[BLOCK_GAIN] > MOST_GAIN_INDEX;
 }
 
 /* "The ten numbers", 9: flags that do not exist, or train with a long base lag. */
 static int flags_refused(const unsigned char *record, int s)
 {
     int flags = block_of(record, s)[BLOCK_FLAGS];
-    if (flags > 3)
+    if (flags > MOST_FLAGS)
         return 1;
-    return flags >= 2 && base_lag_of(record, s) >= 58;
+    return flags >= 2 && base_lag_of(record, s) >= LONG_BASE_LAG;
 }
 
 /* "The ten numbers", 10: a sign without a pulse. */
@@ -232,9 +175,9 @@ static int any_subframe(const unsigned char *record, int (*refused)(const unsign
 /* "The ten numbers", 6 to 10: those of a received record of the right length. */
 static int received_refusal(const unsigned char *record)
 {
-    if (record[BYTE_LAG_A] > 127 || record[BYTE_LAG_B] > 127)
+    if (record[BYTE_LAG_A] > MOST_LAG_CODE || record[BYTE_LAG_B] > MOST_LAG_CODE)
         return 6;
-    if (record[BYTE_STEP_1] > 3 || record[BYTE_STEP_3] > 3)
+    if (record[BYTE_STEP_1] > MOST_STEP || record[BYTE_STEP_3] > MOST_STEP)
         return 7;
     if (any_subframe(record, gain_refused))
         return 8;
@@ -371,7 +314,7 @@ static int64_t choose(int64_t n, int64_t k)
 /* "Pulses": the slots of a code; 0 if it has none. */
 static int unpack_slots(int64_t code, int64_t pulses, int64_t slots[MOST_PULSES])
 {
-    int64_t codes = pulses == 6 ? 593775 : 142506;
+    int64_t codes = pulses == MOST_PULSES ? CODES_OF_SIX : CODES_OF_FIVE;
     if (code >= codes)
         return 0;
     int64_t wanted = pulses;
@@ -607,7 +550,7 @@ static int64_t gain_target(int64_t energy_in, int64_t energy_out)
 {
     if (energy_out == 0)
         return 4096;
-    return limit(0, 1048576, root((int64_t)((wide)energy_in * (1 << 24) / energy_out)));
+    return limit(0, MOST_GAIN, root((int64_t)((wide)energy_in * (1 << 24) / energy_out)));
 }
 
 /* "Formant, tilt, gain": the gain of one subframe moves by the floored sixteenth at each sample. */
@@ -649,7 +592,7 @@ static void remember(struct frame *f, const unsigned char *record)
     int64_t taps = 0;
     for (int j = 0; j < TAPS; j++)
         taps += word(block_of(record, 3) + BLOCK_TAPS + 2 * j);
-    f->tap_sum = limit(0, 32767, 2 * taps);
+    f->tap_sum = limit(0, MOST_TAP_SUM, 2 * taps);
     f->unvoiced_gain = (doubled_gain(block_of(record, 2)) + doubled_gain(block_of(record, 3))) / 2;
     f->lag = lag_of(record, 3);
     f->base_lag = lag_of(record, 2);
@@ -807,9 +750,9 @@ static void close_frame(const struct frame *f, int64_t *state)
 }
 
 /* "Frame": a fresh state. */
-void second_fresh(int64_t state[SECOND_STATE], int postfilter)
+void second_fresh(int64_t state[STATE_NUMBERS], int postfilter)
 {
-    for (int i = 0; i < SECOND_STATE; i++)
+    for (int i = 0; i < STATE_NUMBERS; i++)
         state[i] = 0;
     copy(state + AT_LSP, MEAN_LSP, LSPS);
     state[AT_GAIN] = 4096;
@@ -819,7 +762,7 @@ void second_fresh(int64_t state[SECOND_STATE], int postfilter)
 }
 
 /* "Frame" and "The ten numbers": nothing is written before the last check. */
-int second_decode(int64_t state[SECOND_STATE], const unsigned char *record, size_t length, int64_t *samples,
+int second_decode(int64_t state[STATE_NUMBERS], const unsigned char *record, size_t length, int64_t *samples,
                   size_t count)
 {
     struct frame f;

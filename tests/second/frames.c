@@ -9,10 +9,7 @@
 #include "decoder.h"
 
 enum {
-    LONGEST_LINE = 1098,
-    SAMPLES = 240,
-    NOT_A_RECORD = 11,
-    NUMBERS = 12,
+    NUMBERS = NOT_A_RECORD + 1,
     INPUT = 1 << 16,
     OUTPUT = 1 << 16
 };
@@ -27,7 +24,7 @@ static unsigned char output[OUTPUT];
 static size_t output_used;
 static char pair_text[256][2];
 static signed char digit_value[256];
-static int64_t state[SECOND_STATE];
+static int64_t state[STATE_NUMBERS];
 static unsigned long long seen[NUMBERS];
 
 /* Writes what is held back; a failing write is a quiet end. */
@@ -92,11 +89,11 @@ static int read_pairs(const struct line *line, unsigned char *record)
     return 1;
 }
 
-/* Prints 240 samples of four digits. */
+/* Prints the samples, four digits each. */
 static void print_samples(const int64_t *samples)
 {
-    unsigned char *at = room(SAMPLES * 4 + 1);
-    for (int n = 0; n < SAMPLES; n++) {
+    unsigned char *at = room(FRAME * 4 + 1);
+    for (int n = 0; n < FRAME; n++) {
         unsigned bits = (unsigned)(samples[n] & 65535);
         memcpy(at, pair_text[bits / 256], 2);
         memcpy(at + 2, pair_text[bits % 256], 2);
@@ -117,10 +114,10 @@ static void print_number(int number)
 static void answer(struct line *line)
 {
     unsigned char record[LONGEST_LINE / 2];
-    int64_t samples[SAMPLES];
+    int64_t samples[FRAME];
     int number = NOT_A_RECORD;
     if (read_pairs(line, record))
-        number = second_decode(state, record, line->length / 2, samples, SAMPLES);
+        number = second_decode(state, record, line->length / 2, samples, FRAME);
     if (number == 0)
         print_samples(samples);
     else

@@ -3,8 +3,10 @@
 
 #include <stdint.h>
 
+#include "places.h"
+
 /* LSP_DC_PREDICTED_FREQ_Q15: the mean LSPs. */
-static const int64_t MEAN_LSP[10] = {
+static const int64_t MEAN_LSP[LSPS] = {
     3131, 4721, 7690, 10806, 13872, 16495, 19752, 22260, 25484, 27718
 };
 
@@ -34,43 +36,43 @@ static const int64_t COSINE[257] = {
 };
 
 /* FIXED_CODEBOOK_GAIN_Q15, not doubled. */
-static const int64_t FIXED_GAIN[24] = {
+static const int64_t FIXED_GAIN[MOST_GAIN_INDEX + 1] = {
     1, 2, 3, 4, 6, 9, 13, 18, 26, 38, 55, 80, 115, 166, 240, 348, 502, 726, 1050, 1517, 2193,
     3170, 4582, 6623
 };
 
 /* POSTFILTER_ZERO_Q15: weights of the formant filter's zeros. */
-static const int64_t ZERO_WEIGHT[10] = {
+static const int64_t ZERO_WEIGHT[LSPS] = {
     21299, 13844, 8999, 5849, 3802, 2471, 1606, 1044, 679, 441
 };
 
 /* POSTFILTER_POLE_Q15: weights of the formant filter's poles. */
-static const int64_t POLE_WEIGHT[10] = {
+static const int64_t POLE_WEIGHT[LSPS] = {
     24576, 18432, 13824, 10368, 7776, 5832, 4374, 3281, 2460, 1845
 };
 
 /* Document 01, "LSPs": quarters of the previous LSPs in each subframe. */
-static const int64_t PREVIOUS_QUARTERS[4] = {
+static const int64_t PREVIOUS_QUARTERS[SUBFRAMES] = {
     3, 2, 1, 0
 };
 
 /* Document 01, "LSPs": quarters of the current LSPs in each subframe. */
-static const int64_t CURRENT_QUARTERS[4] = {
+static const int64_t CURRENT_QUARTERS[SUBFRAMES] = {
     1, 2, 3, 4
 };
 
 /* Document 01, "The record": what a step code adds to the base lag. */
-static const int64_t STEP[4] = {
+static const int64_t STEP[MOST_STEP + 1] = {
     -1, 0, 1, 2
 };
 
 /* Document 01, "The record": pulses of the High subframes. */
-static const int64_t PULSES[4] = {
+static const int64_t PULSES[SUBFRAMES] = {
     6, 5, 6, 5
 };
 
-/* Document 01, "Erasure": attenuation of the first three erased frames. */
-static const int64_t ATTENUATION[3] = {
+/* Document 01, "Erasure": attenuation of the erased frames that are heard. */
+static const int64_t ATTENUATION[HEARD_ERASED] = {
     24576, 18432, 13824
 };
 

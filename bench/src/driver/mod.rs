@@ -12,6 +12,7 @@ use std::hint::black_box;
 use std::time::{Duration, Instant};
 
 use super::*;
+use crate::places::{HISTORY, LEAST, LONGEST_LAG, MOST, SHORTEST_LAG};
 use crate::random::Random;
 use layers::*;
 
@@ -21,7 +22,7 @@ const ROUNDS: usize = 15;
 /// What a subframe is asked with. The signal and `hist` with `frame` hold the same samples.
 struct Input {
     signal: [i16; SIGNAL],
-    hist: [i32; HIST],
+    hist: [i32; HISTORY],
     frame: [i32; FRAME_SIZE_SAMPLES],
     number: usize,
     lag: i32,
@@ -36,7 +37,7 @@ struct Input {
 
 /// A voiced or an unvoiced stretch at a random level, with what else a subframe takes.
 fn input(random: &mut Random) -> Input {
-    let lag = 18 + random.below(125) as i32;
+    let lag = (SHORTEST_LAG + random.below(LONGEST_LAG + 1 - SHORTEST_LAG)) as i32;
     let level = 1 << (4 + random.below(10));
     let voiced = random.below(4) > 0;
     let mut noise = |size: i32| random.below(2 * size as u32 + 1) as i32 - size;
@@ -46,20 +47,20 @@ fn input(random: &mut Random) -> Input {
             Some(before) if voiced => signal[before] as i32 * 7 / 8,
             _ => 0,
         };
-        signal[i] = (past + noise(level)).clamp(-32768, 32767) as i16;
+        signal[i] = (past + noise(level)).clamp(LEAST as i32, MOST as i32) as i16;
     }
     let wide = signal.map(i32::from);
     Input {
         signal,
-        hist: wide[..HIST].try_into().unwrap(),
-        frame: wide[HIST..].try_into().unwrap(),
+        hist: wide[..HISTORY].try_into().unwrap(),
+        frame: wide[HISTORY..].try_into().unwrap(),
         taps: std::array::from_fn(|_| noise(6000) as i16),
         fixed: std::array::from_fn(|_| noise(level)),
         a: std::array::from_fn(|k| noise(9000 >> (k / 2)) as i16),
         mem: std::array::from_fn(|_| noise(level) as i16),
         y: std::array::from_fn(|_| noise(level) as i16),
         u: std::array::from_fn(|_| noise(level)),
-        number: random.below(4) as usize,
+        number: random.below(SUBFRAMES_PER_FRAME as u32) as usize,
         rate: [PackedRate::High, PackedRate::Low][random.below(2) as usize],
         lag,
     }
@@ -148,7 +149,7 @@ pub fn run() {
 /// The sum of both vectors, pushed to a signal that is kept from call to call.
 fn ours_pushed(signal: &mut [i16; SIGNAL], i: &Input) -> [i16; SUBFRAME_SIZE] {
     layer_push_excitation(signal, 0, &i.u, &i.fixed);
-    signal[HIST..HIST + SUBFRAME_SIZE].try_into().unwrap()
+    signal[HISTORY..HISTORY + SUBFRAME_SIZE].try_into().unwrap()
 }
 
 /// The lines of `decode_params` between the adaptive part and the push, and the push.

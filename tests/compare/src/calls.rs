@@ -1,6 +1,7 @@
 //! Calls as text for programs `frames`: lines by class, each call from a seed of its own.
 
 use crate::faults;
+use crate::places::LONGEST_LINE;
 use crate::random::Random;
 use crate::records::{self, Class};
 
@@ -45,7 +46,7 @@ pub fn call(seed: u64, number: u64) -> Call {
     let seed = Random(seed.wrapping_add(number)).next();
     let mut random = Random(seed);
     let lines = if KINDS[kind].0 == Kind::Short { random.below(7) } else { 1500 + random.below(2000) } as usize;
-    let mut input = Vec::with_capacity(lines * 1100);
+    let mut input = Vec::with_capacity(lines * (LONGEST_LINE + 2));
     let mut erased = false;
     for _ in 0..lines {
         erased = line(&mut random, KINDS[kind].0, erased, &mut input);
@@ -126,7 +127,8 @@ fn spoil(random: &mut Random, from: usize, out: &mut Vec<u8>) {
             fill(random, from + long, out);
         }
         8 => {
-            let near = [1_096, 1_097, 1_098, 1_099, 1_100, 2_048][random.below(6) as usize];
+            let longest = LONGEST_LINE;
+            let near = [longest - 2, longest - 1, longest, longest + 1, longest + 2, 2_048][random.below(6) as usize];
             fill(random, from + near, out);
         }
         _ => near_low(random, from, out),
@@ -143,13 +145,13 @@ fn fill(random: &mut Random, end: usize, out: &mut Vec<u8>) {
     }
 }
 
-/// A Low record's 1,098 digits, some more or some less.
+/// A Low record's digits, some more or some less.
 fn near_low(random: &mut Random, from: usize, out: &mut Vec<u8>) {
     out.truncate(from);
     let record = records::record(random, Class::Low);
     digits(random, &record, out);
-    let length = [1_096, 1_097, 1_098, 1_098, 1_098, 1_099, 1_100][random.below(7) as usize];
-    out.resize(from + length, b'0');
+    let near = [0, 1, 2, 2, 2, 3, 4][random.below(7) as usize];
+    out.resize(from + LONGEST_LINE - 2 + near, b'0');
 }
 
 /// Any byte but the newline.

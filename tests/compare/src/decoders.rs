@@ -2,6 +2,7 @@
 
 use crate::numbers::Numbers;
 use crate::ours::Ours;
+use crate::places::FRAME;
 use crate::qdec::QSynthesis;
 use crate::qdec::driver::state;
 use crate::record;
@@ -10,7 +11,7 @@ use crate::second::Second;
 pub trait Decoder {
     /// The number, 0 where the record was accepted, and the samples written where it was.
     fn decode(&mut self, record: &[u8], samples: &mut [i64]) -> u8;
-    /// The state's 315 numbers in the order of the oracle's state.rs.
+    /// The state's numbers in the order of the oracle's state.rs.
     fn numbers(&self) -> Vec<i128>;
 }
 
@@ -29,7 +30,7 @@ pub fn others(list: &[i128]) -> [(&'static str, Box<dyn Decoder>); 2] {
 impl Decoder for QSynthesis {
     fn decode(&mut self, bytes: &[u8], samples: &mut [i64]) -> u8 {
         // Number 1 stands here: the oracle's samples are an array.
-        if samples.len() != 240 {
+        if samples.len() != FRAME {
             return 1;
         }
         match record::decode(self, bytes) {

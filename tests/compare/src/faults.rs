@@ -1,9 +1,8 @@
 //! Records that are refused, by the number they get, often with later faults as well: the first that applies is given.
 
+use crate::places::*;
 use crate::random::Random;
 use crate::records::{Class, record};
-
-const PULSES: [u32; 4] = [6, 5, 6, 5];
 
 /// A record that gets `number`, 3 to 10.
 pub fn refused(random: &mut Random, number: u8) -> Vec<u8> {
@@ -24,18 +23,18 @@ pub fn refused(random: &mut Random, number: u8) -> Vec<u8> {
 /// Makes the record faulty by one number.
 fn put(random: &mut Random, out: &mut Vec<u8>, high: bool, number: u8) {
     match number {
-        4 => out[0] = above(random, 2),
+        4 => out[0] = above(random, LOW),
         5 => other_length(random, out),
-        6 => out[[21, 23][random.below(2) as usize]] = above(random, 127),
-        7 => out[[22, 24][random.below(2) as usize]] = above(random, 3),
+        6 => out[[BYTE_LAG_A, BYTE_LAG_B][random.below(2) as usize]] = above(random, LAG_CODE_MOST),
+        7 => out[[BYTE_STEP_1, BYTE_STEP_3][random.below(2) as usize]] = above(random, STEP_MOST),
         8 => {
-            let index = above(random, 23);
-            block(random, out).1[0] = index;
+            let index = above(random, GAIN_MOST);
+            block(random, out).1[BLOCK_GAIN] = index;
         }
         9 if high => bad_flags(random, out),
         10 if high => {
-            let (s, fields) = block(random, out);
-            fields[2] |= 1 << (PULSES[s] + random.below(8 - PULSES[s]));
+            let (s, block) = block(random, out);
+            block[BLOCK_SIGNS] |= 1 << (PULSES[s] + random.below(8 - PULSES[s]));
         }
         _ => (),
     }
@@ -49,22 +48,22 @@ fn above(random: &mut Random, most: u8) -> u8 {
     most + 1 + random.below(255 - u32::from(most)) as u8
 }
 
-/// A block's number and the bytes from its gain index on. The length is made faulty last, so that the blocks are whole.
+/// A subframe and its block. The length is made faulty last, so that the blocks are whole.
 fn block<'a>(random: &mut Random, out: &'a mut [u8]) -> (usize, &'a mut [u8]) {
-    let size = (out.len() - 25) / 4;
-    let s = random.below(4) as usize;
-    (s, &mut out[25 + size * s + 10..])
+    let size = (out.len() - BYTE_BLOCKS) / SUBFRAMES;
+    let s = random.below(SUBFRAMES as u32) as usize;
+    (s, &mut out[BYTE_BLOCKS + size * s..][..size])
 }
 
-/// Flags above 3, or a train at a base lag of 58 or more.
+/// Flags that do not exist, or a train at a long base lag.
 fn bad_flags(random: &mut Random, out: &mut [u8]) {
     let train = random.below(2) == 0;
     if train {
-        let code = [40, 41, 127][random.below(3) as usize];
-        (out[21], out[23]) = (code, code);
+        let code = [lag_code(TRAIN_LAG), lag_code(TRAIN_LAG + 1), LAG_CODE_MOST][random.below(3) as usize];
+        (out[BYTE_LAG_A], out[BYTE_LAG_B]) = (code, code);
     }
-    let flags = if train { 2 + random.below(2) as u8 } else { above(random, 3) };
-    block(random, out).1[1] = flags;
+    let flags = if train { TRAIN + random.below(2) as u8 } else { above(random, FLAGS_MOST) };
+    block(random, out).1[BLOCK_FLAGS] = flags;
 }
 
 /// A byte or some more, some less, the length of another kind, or a kind that does not suit the length.
@@ -74,8 +73,8 @@ fn other_length(random: &mut Random, out: &mut Vec<u8>) {
         0 => out.push(random.below(256) as u8),
         1 => out.truncate(length - 1),
         2 => out.truncate(1 + random.below(length as u32 - 1) as usize),
-        3 => out.resize(if length == 89 { 549 } else { 89 }, 0),
-        4 => out[0] = 0,
-        _ => out[0] = 3 - out[0],
+        3 => out.resize(if length == HIGH_LENGTH { LOW_LENGTH } else { HIGH_LENGTH }, 0),
+        4 => out[0] = ERASED,
+        _ => out[0] = HIGH + LOW - out[0],
     }
 }

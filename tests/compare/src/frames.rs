@@ -8,6 +8,7 @@ use std::time::Instant;
 
 use crate::decoders::{self, Decoder};
 use crate::options::Options;
+use crate::places::{AT_POSTFILTER, FRAME, LEAST, LENGTHS, MOST, NOT_A_RECORD, STATE_NUMBERS, SUBFRAME};
 use crate::qdec::driver::state;
 use crate::random::Random;
 use crate::records::{self, Class};
@@ -22,8 +23,8 @@ const PIECE: u64 = 500;
 struct Counts {
     frames: u64,
     states: u64,
-    kinds: [u64; 3],
-    numbers: [u64; 11],
+    kinds: [u64; LENGTHS.len()],
+    numbers: [u64; NOT_A_RECORD as usize],
     postfilter_off: u64,
 }
 
@@ -110,19 +111,19 @@ fn one_call(random: &mut Random, list: Vec<i128>, length: u64, counts: &mut Coun
                 return Err(format!("{name}: {text}\nrecord {record:?}\nsamples {}\nstate {before:?}", given.len()));
             }
         }
-        counts.count(&record, wanted.number, before[state::COUNT - 1] == 0);
+        counts.count(&record, wanted.number, before[AT_POSTFILTER] == 0);
         before = wanted.state;
     }
     Ok(())
 }
 
-/// Samples before the call: 240 of one value, now and then not 240.
+/// Samples before the call: a frame of one value, now and then more or fewer.
 fn samples(random: &mut Random) -> Vec<i64> {
     let count = match random.below(64) {
-        0 => [0, 1, 60, 239, 241, 480][random.below(6) as usize],
-        _ => 240,
+        0 => [0, 1, SUBFRAME, FRAME - 1, FRAME + 1, 2 * FRAME][random.below(6) as usize],
+        _ => FRAME,
     };
-    vec![random.within(-32_768, 32_767); count]
+    vec![random.within(LEAST, MOST); count]
 }
 
 fn answer(decoder: &mut dyn Decoder, record: &[u8], given: &[i64]) -> Answer {
@@ -141,7 +142,7 @@ fn difference(got: &Answer, wanted: &Answer) -> Option<String> {
         return Some(format!("sample {i}: {}, the Rust {}", a[i], b[i]));
     }
     let (a, b) = (&got.state, &wanted.state);
-    let first = (0..state::COUNT).find(|&i| a[i] != b[i]);
+    let first = (0..STATE_NUMBERS).find(|&i| a[i] != b[i]);
     first.map(|i| format!("state number {i}: {}, the Rust {}", a[i], b[i]))
 }
 

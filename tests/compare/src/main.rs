@@ -11,6 +11,9 @@
 #[path = "../../oracle/src/numbers.rs"]
 mod numbers;
 #[allow(dead_code)]
+#[path = "../../oracle/src/places.rs"]
+mod places;
+#[allow(dead_code)]
 #[path = "../../oracle/src/random.rs"]
 mod random;
 #[allow(dead_code)]

@@ -1,15 +1,17 @@
 //! Our decoder with its state, as C sees it.
 
+use crate::places::{HISTORY, LSPS, TAIL};
+
 unsafe extern "C" {
     fn ours_decode(
-        prev_lsp: &mut [i16; 10],
-        exc_hist: &mut [i32; 146],
-        syn_mem: &mut [i32; 10],
-        num_mem: &mut [i16; 10],
-        den_mem: &mut [i16; 10],
+        prev_lsp: &mut [i16; LSPS],
+        exc_hist: &mut [i32; HISTORY],
+        syn_mem: &mut [i32; LSPS],
+        num_mem: &mut [i16; LSPS],
+        den_mem: &mut [i16; LSPS],
         tilt: &mut [i16; 2],
         numbers: &mut [i32; 5],
-        pcm_hist: &mut [i16; 120],
+        pcm_hist: &mut [i16; TAIL],
         erased_run: &mut [u32; 1],
         postfilter: bool,
         record: *const u8,
@@ -21,14 +23,14 @@ unsafe extern "C" {
 
 #[derive(Clone)]
 pub struct Ours {
-    prev_lsp: [i16; 10],
-    exc_hist: [i32; 146],
-    syn_mem: [i32; 10],
-    num_mem: [i16; 10],
-    den_mem: [i16; 10],
+    prev_lsp: [i16; LSPS],
+    exc_hist: [i32; HISTORY],
+    syn_mem: [i32; LSPS],
+    num_mem: [i16; LSPS],
+    den_mem: [i16; LSPS],
     tilt: [i16; 2],
     numbers: [i32; 5],
-    pcm_hist: [i16; 120],
+    pcm_hist: [i16; TAIL],
     erased_run: [u32; 1],
     postfilter: bool,
 }
@@ -41,7 +43,7 @@ fn take<T: TryFrom<i128>, const N: usize>(list: &mut &[i128]) -> [T; N] {
 }
 
 impl Ours {
-    /// From the 315 numbers of the oracle's state.rs.
+    /// From the numbers of the oracle's state.rs.
     pub fn from_numbers(mut list: &[i128]) -> Self {
         let list = &mut list;
         Self {

@@ -1,6 +1,7 @@
 //! Random records: speech-like ones, loud ones, every field at its ends, and faulty ones.
 
 use crate::faults;
+use crate::places::*;
 use crate::random::Random;
 
 #[derive(Clone, Copy, PartialEq)]
@@ -11,10 +12,9 @@ pub enum Class {
     Faulty,
 }
 
-const MEAN: [i64; 10] = [
+const MEAN: [i64; LSPS] = [
     3131, 4721, 7690, 10806, 13872, 16495, 19752, 22260, 25484, 27718,
 ];
-const LIMITS: [u32; 4] = [593_775, 142_506, 593_775, 142_506];
 
 /// Losses come in runs.
 pub fn next_class(random: &mut Random, erased: bool) -> Class {
@@ -30,7 +30,7 @@ pub fn next_class(random: &mut Random, erased: bool) -> Class {
 
 pub fn record(random: &mut Random, class: Class) -> Vec<u8> {
     match class {
-        Class::Erased => vec![0],
+        Class::Erased => vec![ERASED],
         Class::High => received(random, true),
         Class::Low => received(random, false),
         Class::Faulty if random.below(2) == 0 => faulty(random),
@@ -43,42 +43,52 @@ pub fn record(random: &mut Random, class: Class) -> Vec<u8> {
 
 /// A record that is accepted.
 fn received(random: &mut Random, high: bool) -> Vec<u8> {
-    let mut out = vec![if high { 1 } else { 2 }];
+    let mut out = vec![if high { HIGH } else { LOW }];
     words(&mut out, lsps(random));
     let shortest = random.below(2) == 0;
-    let code = |random: &mut Random| random.mostly_below(if shortest { 40 } else { 128 }, &[0, 39, 40, 124, 125, 126, 127]) as u8;
+    let [train, longest] = [TRAIN_LAG, LONGEST_LAG].map(|lag| u32::from(lag_code(lag)));
+    let most = u32::from(LAG_CODE_MOST);
+    let ends = [0, train - 1, train, longest, longest + 1, most - 1, most];
+    let code = |random: &mut Random| random.mostly_below(if shortest { train } else { most + 1 }, &ends) as u8;
     let (a, b) = (code(random), code(random));
-    out.extend([a, random.below(4) as u8, b, random.below(4) as u8]);
+    let step = |random: &mut Random| random.below(u32::from(STEP_MOST) + 1) as u8;
+    out.extend([a, step(random), b, step(random)]);
     let level = random.below(4);
     let voiced = random.below(3) > 0;
-    let loudness = [0, 60, 3000, 32_767][random.below(4) as usize];
-    for s in 0..4 {
+    let loudness = [0, 60, 3000, MOST][random.below(4) as usize];
+    for s in 0..SUBFRAMES {
         words(&mut out, taps(random, voiced));
-        let gain = [random.below(24), random.below(12), 0, 23][level as usize];
+        let gains = u32::from(GAIN_MOST) + 1;
+        let gain = [random.below(gains), random.below(gains / 2), 0, gains - 1][level as usize];
         out.push(gain as u8);
         if high {
-            let train = random.below(2) == 1 && [a, b][s / 2] < 40;
-            out.push(random.below(2) as u8 + 2 * u8::from(train));
-            out.push(random.below([64, 32][s % 2]) as u8);
-            let ends = [0, LIMITS[s] - 1, LIMITS[s], LIMITS[s] + 1, 0xFF_FFFF];
-            let position = random.mostly_below(LIMITS[s], &ends);
-            out.extend(&position.to_be_bytes()[1..]);
+            pulses(random, &mut out, s, [a, b][s / 2]);
         } else {
             let dense = random.below(4) == 0;
-            words(&mut out, (0..60).map(|_| if dense || random.below(12) == 0 { random.within(-loudness, loudness) } else { 0 }).collect());
+            words(&mut out, (0..SUBFRAME).map(|_| if dense || random.below(12) == 0 { random.within(-loudness, loudness) } else { 0 }).collect());
         }
     }
     out
 }
 
+/// Flags, signs and position code of a High block, with a train where its base lag code allows one.
+fn pulses(random: &mut Random, out: &mut Vec<u8>, s: usize, code: u8) {
+    let train = random.below(2) == 1 && code < lag_code(TRAIN_LAG);
+    out.push(random.below(2) as u8 + TRAIN * u8::from(train));
+    out.push(random.below(1 << PULSES[s]) as u8);
+    let limit = CODE_LIMITS[s];
+    let position = random.mostly_below(limit, &[0, limit - 1, limit, limit + 1, 0xFF_FFFF]);
+    out.extend(&position.to_be_bytes()[1..]);
+}
+
 /// Ten LSPs: near the mean, in order, in no order, or close together.
 fn lsps(random: &mut Random) -> Vec<i64> {
     let mut list: Vec<i64> = match random.below(8) {
-        0 => (0..10).map(|_| random.within(-32_768, 32_767)).collect(),
-        1 => (0..10).map(|_| random.within(-32_768, 32_767)).collect(),
+        0 => (0..LSPS).map(|_| random.within(LEAST, MOST)).collect(),
+        1 => (0..LSPS).map(|_| random.within(LEAST, MOST)).collect(),
         2 => {
-            let low = random.within(-32_768, 30_000);
-            (0..10).map(|k| (low + k * i64::from(random.below(600))).min(32_767)).collect()
+            let low = random.within(LEAST, 30_000);
+            (0..LSPS as i64).map(|k| (low + k * i64::from(random.below(600))).min(MOST)).collect()
         }
         _ => MEAN.map(|m| m + random.within(-700, 700)).to_vec(),
     };
@@ -91,11 +101,11 @@ fn lsps(random: &mut Random) -> Vec<i64> {
 /// Five taps: a strong middle, random, or at their ends.
 fn taps(random: &mut Random, voiced: bool) -> Vec<i64> {
     match random.below(8) {
-        0 => (0..5).map(|_| random.within(-32_768, 32_767)).collect(),
-        1 => vec![[-32_768, 0, 32_767][random.below(3) as usize]; 5],
+        0 => (0..TAPS).map(|_| random.within(LEAST, MOST)).collect(),
+        1 => vec![[LEAST, 0, MOST][random.below(3) as usize]; TAPS],
         _ => {
             let middle = if voiced { random.within(6000, 16_000) } else { random.within(-900, 900) };
-            let mut list: Vec<i64> = (0..5).map(|_| random.within(-1500, 1500)).collect();
+            let mut list: Vec<i64> = (0..TAPS).map(|_| random.within(-1500, 1500)).collect();
             list[2] = middle;
             list
         }
@@ -112,10 +122,12 @@ fn faulty(random: &mut Random) -> Vec<u8> {
         2 => out[0] = random.below(256) as u8,
         3 => out = (0..random.below(100)).map(|_| random.below(256) as u8).collect(),
         _ => {
-            let size = (out.len() - 25) / 4;
+            let size = (out.len() - BYTE_BLOCKS) / SUBFRAMES;
             for _ in 0..1 + random.below(3) {
-                let block = 25 + size * random.below(4) as usize;
-                let at = [21, 22, 23, 24, block + 10, block + 11, block + 12][random.below(7) as usize];
+                let block = BYTE_BLOCKS + size * random.below(SUBFRAMES as u32) as usize;
+                let [gain, flags, signs] = [BLOCK_GAIN, BLOCK_FLAGS, BLOCK_SIGNS].map(|place| block + place);
+                let places = [BYTE_LAG_A, BYTE_STEP_1, BYTE_LAG_B, BYTE_STEP_3, gain, flags, signs];
+                let at = places[random.below(7) as usize];
                 out[at] = random.below(256) as u8;
             }
         }

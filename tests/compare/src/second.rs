@@ -1,21 +1,29 @@
 //! The second decoder with its state, as C sees it.
 
+use crate::places::STATE_NUMBERS;
+
 unsafe extern "C" {
-    fn second_decode(state: &mut [i64; 315], record: *const u8, length: usize, samples: *mut i64, count: usize) -> i32;
-    fn second_fresh(state: &mut [i64; 315], postfilter: i32);
+    fn second_decode(
+        state: &mut [i64; STATE_NUMBERS],
+        record: *const u8,
+        length: usize,
+        samples: *mut i64,
+        count: usize,
+    ) -> i32;
+    fn second_fresh(state: &mut [i64; STATE_NUMBERS], postfilter: i32);
 }
 
-pub struct Second([i64; 315]);
+pub struct Second([i64; STATE_NUMBERS]);
 
 impl Second {
-    /// From the 315 numbers of the oracle's state.rs.
+    /// From the numbers of the oracle's state.rs.
     pub fn from_numbers(list: &[i128]) -> Self {
         Self(std::array::from_fn(|i| list[i] as i64))
     }
 
     pub fn fresh(postfilter: bool) -> Self {
-        let mut state = [0; 315];
-        // SAFETY: it writes the 315 numbers and no more.
+        let mut state = [0; STATE_NUMBERS];
+        // SAFETY: it writes as many numbers and no more.
         unsafe { second_fresh(&mut state, i32::from(postfilter)) };
         Self(state)
     }

@@ -1,47 +1,38 @@
 //! Arbitrary states: every field free within the bounds of number 2, and such that leave them.
 
+use crate::places::*;
 use crate::random::Random;
 
-/// The 315 numbers of a state, in the order of the oracle's state.rs.
+/// The numbers of a state, in the order of the oracle's state.rs.
 pub fn arbitrary(random: &mut Random) -> Vec<i128> {
-    let loudness = [0, 9, 900, 32_767][random.below(4) as usize];
-    let mut list: Vec<i64> = (0..10).map(|_| random.within(-32_768, 32_767)).collect();
+    let loudness = [0, 9, 900, MOST][random.below(4) as usize];
+    let mut list: Vec<i64> = (0..LSPS).map(|_| random.within(LEAST, MOST)).collect();
     if random.below(2) == 0 {
         list.sort();
     }
-    let period = 18 + random.below(110) as usize;
+    let period = (SHORTEST_LAG + random.below(110)) as usize;
     let repeats = random.below(2) == 0;
-    signal(random, &mut list, 146, loudness, repeats.then_some(period));
-    signal(random, &mut list, 30, loudness, None);
-    list.extend((0..2).map(|_| random.within(-32_768, 32_767)));
-    list.push(random.within(0, 1_048_576));
-    list.push(random.within(17, 147));
-    list.push(if repeats { period as i64 } else { random.within(18, 145) });
-    list.push(random.within(0, 32_767));
-    list.push(random.within(0, 13_246));
-    signal(random, &mut list, 120, loudness, repeats.then_some(period));
+    let within = |random: &mut Random, (low, high): (i64, i64)| random.within(low, high);
+    signal(random, &mut list, HISTORY, loudness, repeats.then_some(period));
+    signal(random, &mut list, AT_TILT - AT_SYNTHESIS, loudness, None);
+    list.extend((0..2).map(|_| random.within(LEAST, MOST)));
+    list.push(within(random, GAIN));
+    list.push(within(random, LAST_LAG));
+    list.push(if repeats { period as i64 } else { within(random, BASE_LAG) });
+    list.push(within(random, TAP_SUM));
+    list.push(within(random, UNVOICED_GAIN));
+    signal(random, &mut list, TAIL, loudness, repeats.then_some(period));
     let run = random.mostly_below(6, &[0, u32::MAX - 1, u32::MAX]);
     list.extend([i64::from(run), i64::from(random.below(2))]);
     list.into_iter().map(i128::from).collect()
 }
 
-/// The fields that number 2 tests, by their places, and their ends.
-const BOUNDS: [(usize, usize, i128, i128); 7] = [
-    (10, 146, -32_768, 32_767),
-    (156, 10, -32_768, 32_767),
-    (188, 1, 0, 1_048_576),
-    (189, 1, 17, 147),
-    (190, 1, 18, 145),
-    (191, 1, 0, 32_767),
-    (192, 1, 0, 13_246),
-];
-
-/// Puts a number of one of those fields out of its bounds, mostly just.
+/// Puts a number of a field that number 2 tests out of its bounds, mostly just.
 pub fn leave_bounds(random: &mut Random, list: &mut [i128]) {
-    let (from, count, low, high) = BOUNDS[random.below(7) as usize];
+    let (from, count, (low, high)) = BOUNDED[random.below(BOUNDED.len() as u32) as usize];
     let at = from + random.below(count as u32) as usize;
-    let far = [i128::from(i32::MIN), i128::from(i32::MAX)];
-    list[at] = [low - 1, high + 1, low - 1, high + 1, far[0], far[1]][random.below(6) as usize];
+    let far = [i64::from(i32::MIN), i64::from(i32::MAX)];
+    list[at] = [low - 1, high + 1, low - 1, high + 1, far[0], far[1]][random.below(6) as usize].into();
 }
 
 /// Appends `count` values of one loudness, which repeat where there is a period.
@@ -50,7 +41,7 @@ fn signal(random: &mut Random, list: &mut Vec<i64>, count: usize, loudness: i64,
     for i in 0..count {
         let value = match period {
             Some(p) if i >= p => list[start + i - p],
-            _ => random.within(-loudness - i64::from(loudness == 32_767), loudness),
+            _ => random.within(-loudness - i64::from(loudness == MOST), loudness),
         };
         list.push(value);
     }

@@ -1,11 +1,16 @@
 //! What a program printed, taken apart and counted.
 
+use crate::places::{FRAME, NOT_A_RECORD};
+
+/// The numbers of R lines are below this.
+const NUMBERS: usize = NOT_A_RECORD as usize + 1;
+
 /// Answers counted: samples, and each number.
 #[derive(Clone, Default)]
 pub struct Tally {
     pub calls: u64,
     pub samples: u64,
-    pub numbers: [u64; 12],
+    pub numbers: [u64; NUMBERS],
 }
 
 /// The answers in their order and the closing lines sorted, for these may come in any order.
@@ -46,11 +51,11 @@ impl<'a> Output<'a> {
 /// The number of an answer, 0 for samples.
 fn number(answer: &[u8]) -> Option<usize> {
     let text = answer.strip_suffix(b"\n")?;
-    if text.len() == 960 {
+    if text.len() == 4 * FRAME {
         let digit = |byte: &u8| matches!(byte, b'0'..=b'9' | b'A'..=b'F');
         return text.iter().all(digit).then_some(0);
     }
-    (3..12).find(|n| text == format!("R{n:02}").as_bytes())
+    (3..NUMBERS).find(|n| text == format!("R{n:02}").as_bytes())
 }
 
 /// The beginning of a line, bytes that are no letters escaped.
@@ -79,6 +84,6 @@ impl Tally {
 
 /// The names above the rows.
 pub fn head(name: &str) -> String {
-    let numbers: String = (3..12).map(|n| format!("{:>9}", format!("R{n:02}"))).collect();
+    let numbers: String = (3..NUMBERS).map(|n| format!("{:>9}", format!("R{n:02}"))).collect();
     format!("{name:10}{:>7}{:>10}{:>10}{numbers}\n", "calls", "lines", "samples")
 }

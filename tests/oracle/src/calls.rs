@@ -3,7 +3,7 @@
 //!
 //! ```text
 //! F   a fresh state, with the postfilter if the first field is 1
-//! S   a state: the 315 numbers of state.rs, four bytes each
+//! S   a state: the numbers of state.rs, four bytes each
 //! D   a record: the first field is the length of the samples, each of which is the second field before
 //! ```
 //!
@@ -13,6 +13,7 @@
 use std::io::{self, BufRead, Write};
 
 use crate::numbers::Numbers;
+use crate::places::{AT_RUN, FRAME};
 use crate::qdec::QSynthesis;
 use crate::qdec::driver::state;
 use crate::record;
@@ -51,8 +52,8 @@ fn answer(current: &mut QSynthesis, line: &str) -> Option<(u8, Vec<i128>)> {
 
 /// Number 1 here, the others by `record`.
 fn decode(current: &mut QSynthesis, length: u16, mark: i16, bytes: &[u8]) -> (u8, Vec<i128>) {
-    let decoded = match length {
-        240 => record::decode(current, bytes),
+    let decoded = match usize::from(length) {
+        FRAME => record::decode(current, bytes),
         _ => Err(1),
     };
     let (number, samples) = match decoded {
@@ -70,13 +71,13 @@ fn bytes(text: &str) -> Option<Vec<u8>> {
         .collect()
 }
 
-/// The numbers of a state. The run of erased frames, the last but one, is the one without a sign.
+/// The numbers of a state. The run of erased frames is the one without a sign.
 fn image(bytes: &[u8]) -> Numbers {
     let words = bytes
         .chunks_exact(4)
         .map(|b| u32::from_be_bytes(b.try_into().unwrap()));
     let signed = |(i, n): (usize, u32)| {
-        if i == 313 {
+        if i == AT_RUN {
             i128::from(n)
         } else {
             i128::from(n as i32)

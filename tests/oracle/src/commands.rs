@@ -7,6 +7,7 @@ use std::{env, fs, panic};
 use crate::calls;
 use crate::frames;
 use crate::numbers::Numbers;
+use crate::places::STATE_NUMBERS;
 use crate::qdec::QSynthesis;
 use crate::qdec::driver::{layers, selfcheck, state};
 
@@ -15,7 +16,7 @@ const USAGE: &str = "usage: oracle COMMAND
   selfcheck [COUNT]   the driver against decode_params on COUNT received frames (20000)
   frames [--state] [--postfilter-off] [--from FILE]
                       document 01's program; --state adds a line S and the state to each answer,
-                      --from starts at the state in FILE, 315 numbers in a line,
+                      --from starts at the state in FILE, its numbers in a line,
                       --postfilter-off switches the postfilter off in the state at the start
   calls               whole calls, a state, a record or a fresh start in each line
   layers              questions NAME number number .. , one a line";
@@ -108,9 +109,9 @@ fn state_in(file: &str) -> Result<QSynthesis, String> {
     let text = fs::read_to_string(file).map_err(|error| format!("{file}: {error}"))?;
     let numbers = Numbers::read(text.split_ascii_whitespace());
     numbers
-        .filter(|numbers| numbers.left() == state::COUNT)
+        .filter(|numbers| numbers.left() == STATE_NUMBERS)
         .and_then(|mut numbers| state::from_numbers(&mut numbers))
-        .ok_or(format!("{file}: not a state of {} numbers", state::COUNT))
+        .ok_or(format!("{file}: not a state of {STATE_NUMBERS} numbers"))
 }
 
 /// Answers the questions of standard input, a line each.

@@ -3,12 +3,10 @@
 use std::io::{self, BufRead, Write};
 
 use crate::numbers::text;
+use crate::places::{FRAME, LONGEST_LINE, NOT_A_RECORD};
 use crate::qdec::QSynthesis;
 use crate::qdec::driver::state;
 use crate::record;
-
-/// The longest line that can be a record.
-const LONGEST: usize = 1_098;
 
 /// Answers each line of the input, then prints the counts of the numbers seen, in ascending order.
 pub fn run(
@@ -17,7 +15,7 @@ pub fn run(
     mut state: QSynthesis,
     show_state: bool,
 ) -> io::Result<()> {
-    let mut counts = [0u64; 12];
+    let mut counts = [0u64; NOT_A_RECORD as usize + 1];
     let mut line = Vec::new();
     while input.read_until(b'\n', &mut line)? > 0 {
         if line.last() == Some(&b'\n') {
@@ -42,14 +40,14 @@ pub fn run(
 }
 
 /// The samples for one line without its newline, or the number of the refusal.
-fn answer(state: &mut QSynthesis, line: &[u8]) -> Result<[i16; 240], u8> {
-    let bytes = digit_pairs(line).ok_or(11)?;
+fn answer(state: &mut QSynthesis, line: &[u8]) -> Result<[i16; FRAME], u8> {
+    let bytes = digit_pairs(line).ok_or(NOT_A_RECORD)?;
     record::decode(state, &bytes)
 }
 
 /// The bytes of a line of hexadecimal digit pairs; none for any other line or one that is too long.
 fn digit_pairs(line: &[u8]) -> Option<Vec<u8>> {
-    if line.len() > LONGEST || line.len() % 2 != 0 {
+    if line.len() > LONGEST_LINE || line.len() % 2 != 0 {
         return None;
     }
     let digit = |c: u8| char::from(c).to_digit(16);

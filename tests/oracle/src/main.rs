@@ -4,6 +4,8 @@ mod calls;
 mod commands;
 mod frames;
 mod numbers;
+#[allow(dead_code)]
+mod places;
 mod random;
 mod record;
 mod stubs;

@@ -1,7 +1,8 @@
 //! Document 01's record and its refusals, numbers 2 to 10. Number 1 cannot arise: the samples are
-//! an array of 240.
+//! an array.
 
 use crate::linepack::PackedRate;
+use crate::places::*;
 use crate::qdec::QSynthesis;
 use crate::qdec::driver::frame::{Fixed, Frame};
 use crate::qdec::driver::state::in_bounds;
@@ -13,15 +14,8 @@ pub enum Record {
     Received(Box<Frame>),
 }
 
-/// Bytes of a record of each kind: erased, High, Low.
-const LENGTHS: [usize; 3] = [1, 89, 549];
-/// Where the first block begins.
-const BLOCKS: usize = 25;
-/// Pulses of each subframe at the high rate.
-const PULSES: [u32; 4] = [6, 5, 6, 5];
-
 /// One record's samples, or the number of the first refusal that applies; then the state stays.
-pub fn decode(state: &mut QSynthesis, bytes: &[u8]) -> Result<[i16; 240], u8> {
+pub fn decode(state: &mut QSynthesis, bytes: &[u8]) -> Result<[i16; FRAME], u8> {
     refuse(2, !in_bounds(state))?;
     match read(bytes)? {
         Record::Erased => Ok(state.decode_erased()),
@@ -33,23 +27,27 @@ pub fn decode(state: &mut QSynthesis, bytes: &[u8]) -> Result<[i16; 240], u8> {
 pub fn read(bytes: &[u8]) -> Result<Record, u8> {
     refuse(3, bytes.is_empty())?;
     let kind = bytes[0];
-    refuse(4, kind > 2)?;
+    refuse(4, kind > LOW)?;
     refuse(5, bytes.len() != LENGTHS[usize::from(kind)])?;
-    if kind == 0 {
+    if kind == ERASED {
         return Ok(Record::Erased);
     }
-    let high = kind == 1;
-    let codes = [bytes[21], bytes[22], bytes[23], bytes[24]];
-    let size = (bytes.len() - BLOCKS) / 4;
-    let blocks: [&[u8]; 4] = std::array::from_fn(|s| &bytes[BLOCKS + s * size..][..size]);
-    refuse(6, codes[0] > 127 || codes[2] > 127)?;
-    refuse(7, codes[1] > 3 || codes[3] > 3)?;
-    refuse(8, blocks.iter().any(|block| block[10] > 23))?;
+    let high = kind == HIGH;
+    let codes = [BYTE_LAG_A, BYTE_STEP_1, BYTE_LAG_B, BYTE_STEP_3].map(|place| bytes[place]);
+    let size = if high { HIGH_BLOCK } else { LOW_BLOCK };
+    let blocks: [&[u8]; SUBFRAMES] =
+        std::array::from_fn(|s| &bytes[BYTE_BLOCKS + s * size..][..size]);
+    refuse(6, codes[0] > LAG_CODE_MOST || codes[2] > LAG_CODE_MOST)?;
+    refuse(7, codes[1] > STEP_MOST || codes[3] > STEP_MOST)?;
+    refuse(8, blocks.iter().any(|block| block[BLOCK_GAIN] > GAIN_MOST))?;
     refuse(
         9,
-        high && (0..4).any(|s| bad_flags(blocks[s], codes[s / 2 * 2])),
+        high && (0..SUBFRAMES).any(|s| bad_flags(blocks[s], codes[s / 2 * 2])),
     )?;
-    refuse(10, high && (0..4).any(|s| blocks[s][12] >> PULSES[s] != 0))?;
+    refuse(
+        10,
+        high && (0..SUBFRAMES).any(|s| blocks[s][BLOCK_SIGNS] >> PULSES[s] != 0),
+    )?;
     Ok(Record::Received(Box::new(frame(bytes, codes, blocks))))
 }
 
@@ -58,42 +56,43 @@ fn refuse(number: u8, applies: bool) -> Result<(), u8> {
     if applies { Err(number) } else { Ok(()) }
 }
 
-/// Number 9 for one block: flags above 3, or a train at a base lag of 58 or more.
+/// Number 9 for one block: flags that do not exist, or a train at a long base lag.
 fn bad_flags(block: &[u8], base_code: u8) -> bool {
-    let flags = block[11];
-    flags > 3 || (flags & 2 != 0 && i32::from(base_code) + 18 >= 58)
+    let flags = block[BLOCK_FLAGS];
+    flags > FLAGS_MOST || (flags & TRAIN != 0 && u32::from(base_code) + FIRST_LAG >= TRAIN_LAG)
 }
 
 /// The fields of a record that passed every test.
-fn frame(bytes: &[u8], codes: [u8; 4], blocks: [&[u8]; 4]) -> Frame {
-    let high = bytes[0] == 1;
+fn frame(bytes: &[u8], codes: [u8; SUBFRAMES], blocks: [&[u8]; SUBFRAMES]) -> Frame {
+    let high = bytes[0] == HIGH;
     Frame {
         rate: if high {
             PackedRate::High
         } else {
             PackedRate::Low
         },
-        candidate: words(&bytes[1..]),
+        candidate: words(&bytes[BYTE_LSPS..]),
         acl: codes.map(u32::from),
         taps: blocks.map(words),
-        gain_index: blocks.map(|block| block[10]),
+        gain_index: blocks.map(|block| block[BLOCK_GAIN]),
         fixed: blocks.map(|block| if high { pulses(block) } else { values(block) }),
     }
 }
 
 /// The pulses of a High block.
 fn pulses(block: &[u8]) -> Fixed {
+    let code = &block[BLOCK_CODE..];
     Fixed::Pulses {
-        pos: u32::from_be_bytes([0, block[13], block[14], block[15]]),
-        psig: u32::from(block[12]),
-        grid: block[11] & 1,
-        train: block[11] & 2 != 0,
+        pos: u32::from_be_bytes([0, code[0], code[1], code[2]]),
+        psig: u32::from(block[BLOCK_SIGNS]),
+        grid: block[BLOCK_FLAGS] & GRID,
+        train: block[BLOCK_FLAGS] & TRAIN != 0,
     }
 }
 
 /// The sixty values of a Low block.
 fn values(block: &[u8]) -> Fixed {
-    Fixed::Vector(words(&block[11..]).map(i32::from))
+    Fixed::Vector(words(&block[BLOCK_VALUES..]).map(i32::from))
 }
 
 /// The first `N` 16-bit values, big-endian two's complement.

@@ -1,7 +1,7 @@
 //! Questions to single functions: a name and numbers in a line, numbers in the answer.
 //!
 //! The operators take their parameters in the Rust's order. The others, with the count of a list in
-//! brackets and STATE for the 315 numbers of state.rs:
+//! brackets and STATE for the numbers of state.rs:
 //!
 //! ```text
 //! wide_product a b                        hi lo
@@ -35,6 +35,7 @@ use super::super::*;
 use super::frame::{Fixed, Frame, doubled_gain};
 use super::state;
 use crate::numbers::{Numbers, text};
+use crate::places::{self, POSTFILTER_NUMBERS, STATE_NUMBERS, TAIL};
 use crate::spec_tables::fcbk_unpk_positions;
 
 /// Answers from the numbers of a question; none where one of them does not fit its parameter.
@@ -61,25 +62,35 @@ const LAYERS: [(&str, usize, Layer); 36] = [
     ("wide_less", 4, |q| one(u8::from(wide(q)? < wide(q)?))),
     ("wide_divide", 4, wide_divide),
     ("cos_q14", 1, |q| one(cos_q14(q.one()?))),
-    ("lsp_stability", 11, stability),
-    ("lsp_check_or_previous", 21, check_or_previous),
-    ("lsp_extrapolate", 10, |q| {
+    ("lsp_stability", 1 + LPC_ORDER, stability),
+    ("lsp_check_or_previous", 1 + 2 * LPC_ORDER, check_or_previous),
+    ("lsp_extrapolate", LPC_ORDER, |q| {
         list(lsp_extrapolate(&q.array()?))
     }),
-    ("lsp_interpolate", 21, interpolate),
-    ("lsp_to_lpc_q13", 10, |q| list(lsp_to_lpc_q13(&q.array()?))),
-    ("frame_lpc_q13", 20, frame_lpc),
+    ("lsp_interpolate", 1 + 2 * LPC_ORDER, interpolate),
+    ("lsp_to_lpc_q13", LPC_ORDER, |q| {
+        list(lsp_to_lpc_q13(&q.array()?))
+    }),
+    ("frame_lpc_q13", 2 * LPC_ORDER, frame_lpc),
     ("fcbk_unpk_positions", 2, positions),
     ("mpmlq_fixed_vector", 7, pulse_vector),
-    ("acb_contribution", 152, adaptive),
-    ("excitation_subframe", 213, excitation),
-    ("record_last_frame", 7, last_frame),
-    ("synthesis_subframe", 80, synthesis),
-    ("pitch_postfilter", 389, pitch),
-    ("formant_agc_subframe", 93, formant_tilt_gain),
-    ("classify_erasure_voicing", 121, classify),
+    ("acb_contribution", 1 + ACB_TAPS + EXC_HIST, adaptive),
+    (
+        "excitation_subframe",
+        2 + ACB_TAPS + SUBFRAME_SIZE + EXC_HIST,
+        excitation,
+    ),
+    ("record_last_frame", ACB_TAPS + 2, last_frame),
+    ("synthesis_subframe", 2 * LPC_ORDER + SUBFRAME_SIZE, synthesis),
+    ("pitch_postfilter", 3 + EXC_HIST + FRAME_SIZE_SAMPLES, pitch),
+    (
+        "formant_agc_subframe",
+        LPC_ORDER + SUBFRAME_SIZE + POSTFILTER_NUMBERS,
+        formant_tilt_gain,
+    ),
+    ("classify_erasure_voicing", 1 + TAIL, classify),
     ("noise_start", 1, noise_start),
-    ("decode_erased", 315, erased),
+    ("decode_erased", STATE_NUMBERS, erased),
 ];
 
 /// The answer to a line: numbers, `none`, `overflow` where the Rust panics, `?` for no question.
@@ -228,8 +239,8 @@ fn synthesis(q: &mut Numbers) -> Option<String> {
 /// One subframe of the pitch postfilter.
 fn pitch(q: &mut Numbers) -> Option<String> {
     let rate = match q.one()? {
-        1u8 => PackedRate::High,
-        2u8 => PackedRate::Low,
+        places::HIGH => PackedRate::High,
+        places::LOW => PackedRate::Low,
         _ => return None,
     };
     let (start, lag) = (q.one()?, q.one()?);

@@ -4,6 +4,9 @@ use super::super::*;
 use super::frame::{Fixed, Frame, lags};
 use super::state;
 use crate::numbers::Numbers;
+use crate::places::{
+    self, LAG_CODE_MOST, LEAST, LONGEST_LAG, MOST, STATE_NUMBERS, TRAIN_LAG, lag_code,
+};
 use crate::random::Random;
 
 const SEED: u64 = 7231;
@@ -75,21 +78,25 @@ fn starting_state(random: &mut Random, counts: &mut Counts) -> Vec<i128> {
         return state::to_numbers(&state::fresh(postfilter));
     }
     counts.given_states += 1;
-    let loudness = [0, 9, 900, 32_767][random.below(4) as usize];
-    let lowest = [0, -32_768][random.below(2) as usize];
+    let loudness = [0, 9, 900, MOST][random.below(4) as usize];
+    let lowest = [0, LEAST][random.below(2) as usize];
     let mut list: Vec<i64> = (0..LPC_ORDER)
-        .map(|_| random.within(lowest, 32_767))
+        .map(|_| random.within(lowest, MOST))
         .collect();
     if random.below(4) > 0 {
         list.sort();
     }
     list.extend((0..EXC_HIST + 3 * LPC_ORDER).map(|_| random.within(-loudness - 1, loudness)));
-    list.extend((0..2).map(|_| random.within(-32_768, 32_767)));
-    list.push(random.within(0, 1_048_576));
-    list.extend([random.within(17, 147), random.within(18, 145)]);
-    list.extend([random.within(0, 32_767), random.within(0, 13_246)]);
-    let tail = crate::tables::ERASURE_CLASSIFIER_HISTORY_LEN;
-    list.extend((0..tail).map(|_| random.within(-loudness - 1, loudness)));
+    list.extend((0..2).map(|_| random.within(LEAST, MOST)));
+    let single = [
+        places::GAIN,
+        places::LAST_LAG,
+        places::BASE_LAG,
+        places::TAP_SUM,
+        places::UNVOICED_GAIN,
+    ];
+    list.extend(single.map(|(low, high)| random.within(low, high)));
+    list.extend((0..places::TAIL).map(|_| random.within(-loudness - 1, loudness)));
     let run = random.mostly_below(6, &[0, u32::MAX - 1, u32::MAX]);
     list.extend([i64::from(run), i64::from(postfilter)]);
     list.into_iter().map(i128::from).collect()
@@ -101,12 +108,13 @@ fn random_params(random: &mut Random) -> SpecFrameParams {
         return loudest_low();
     }
     let rate = [PackedRate::High, PackedRate::Low][random.below(2) as usize];
+    let [six, five] = [1 << places::PULSES[0], 1 << places::PULSES[1]];
     let mut p = SpecFrameParams::zeroed(rate);
     p.lsp_index = random.mostly_below(1 << 24, &[0, 0xFF_FFFF]);
     for s in 0..SUBFRAMES_PER_FRAME {
         p.acl[s] = match s % 2 {
-            0 => random.mostly_below(128, &[0, 39, 40, 41, 124, 125, 126, 127]),
-            _ => random.below(4),
+            0 => random.mostly_below(u32::from(LAG_CODE_MOST) + 1, &lag_codes()),
+            _ => random.below(u32::from(places::STEP_MOST) + 1),
         };
         p.gain[s] = random.mostly_below(4096, &[0, 23, 2039, 2047, 2048, 4079, 4080, 4095]);
         p.grid[s] = random.below(2) as u8;
@@ -115,7 +123,7 @@ fn random_params(random: &mut Random) -> SpecFrameParams {
                 let limit = crate::spec_tables::MPMLQ_MAX_POSITION[s];
                 let ends = [0, limit - 1, limit, limit + 1, 0xFF_FFFF];
                 let pos = random.mostly_below(limit, &ends);
-                (pos, random.mostly_below(64, &[0, 0x1F, 0x20, 0x3F]))
+                (pos, random.mostly_below(six, &[0, five - 1, five, six - 1]))
             }
             PackedRate::Low => (
                 random.mostly_below(4096, &[0, 4095]),
@@ -126,12 +134,20 @@ fn random_params(random: &mut Random) -> SpecFrameParams {
     p
 }
 
+/// Base lag codes at both ends, around the first lag that has no train, and from the longest lag on.
+fn lag_codes() -> Vec<u32> {
+    let (train, longest) = (lag_code(TRAIN_LAG), lag_code(LONGEST_LAG));
+    let above = (train - 1..=train + 1).chain(longest..=LAG_CODE_MOST);
+    [0].into_iter().chain(above).map(u32::from).collect()
+}
+
 /// A Low frame whose vector leaves 16 bits: pulses at 0, 18, 36 and 54, all positive, with the
 /// largest gain and lag 18, so that each adds to the next almost whole.
 fn loudest_low() -> SpecFrameParams {
     SpecFrameParams {
         acl: [0, 1, 0, 1],
-        gain: [97 * crate::spec_tables::GAIN_TABLE_SIZE + 23; SUBFRAMES_PER_FRAME],
+        gain: [97 * crate::spec_tables::GAIN_TABLE_SIZE + u32::from(places::GAIN_MOST);
+            SUBFRAMES_PER_FRAME],
         pos: [2 << 3 | 4 << 6 | 6 << 9; SUBFRAMES_PER_FRAME],
         psig: [15; SUBFRAMES_PER_FRAME],
         ..SpecFrameParams::zeroed(PackedRate::Low)
@@ -180,7 +196,7 @@ fn same(
     let [rust, driver] = states.map(|q| (state::to_numbers(q), state::clamps(q)));
     let first = if let Some(i) = (0..FRAME_SIZE_SAMPLES).find(|&i| samples[0][i] != samples[1][i]) {
         format!("sample {i}: {} and {}", samples[0][i], samples[1][i])
-    } else if let Some(i) = (0..state::COUNT).find(|&i| rust.0[i] != driver.0[i]) {
+    } else if let Some(i) = (0..STATE_NUMBERS).find(|&i| rust.0[i] != driver.0[i]) {
         format!("state number {i}: {} and {}", rust.0[i], driver.0[i])
     } else if !(rust.1 && driver.1) {
         "the synthesis memory is not clamped".to_string()

@@ -2,9 +2,7 @@
 
 use super::super::{PostfilterState, QSynthesis};
 use crate::numbers::Numbers;
-
-/// How many numbers a state is.
-pub const COUNT: usize = 315;
+use crate::places::{self, STATE_NUMBERS};
 
 /// A fresh state with the postfilter on or off.
 pub fn fresh(postfilter: bool) -> QSynthesis {
@@ -29,7 +27,7 @@ pub fn to_numbers(state: &QSynthesis) -> Vec<i128> {
         postfilter,
         clamp_syn_mem: _,
     } = state;
-    let mut list = Vec::with_capacity(COUNT);
+    let mut list = Vec::with_capacity(STATE_NUMBERS);
     list.extend(prev_lsp.iter().map(|&n| i128::from(n)));
     list.extend(exc_hist.iter().map(|&n| i128::from(n)));
     list.extend(syn_mem.iter().map(|&n| i128::from(n)));
@@ -57,7 +55,7 @@ pub(super) fn postfilter_numbers(pf: &PostfilterState) -> Vec<i128> {
     list
 }
 
-/// The state of the next 315 numbers; none if one does not fit its field's width.
+/// The state of the next numbers; none if one does not fit its field's width.
 pub fn from_numbers(numbers: &mut Numbers) -> Option<QSynthesis> {
     Some(QSynthesis {
         prev_lsp: numbers.array()?,
@@ -75,7 +73,7 @@ pub fn from_numbers(numbers: &mut Numbers) -> Option<QSynthesis> {
     })
 }
 
-/// The formant, tilt and gain memory of the next 23 numbers.
+/// The formant, tilt and gain memory of the next numbers.
 pub(super) fn postfilter_from_numbers(numbers: &mut Numbers) -> Option<PostfilterState> {
     Some(PostfilterState {
         num_mem: numbers.array()?,
@@ -93,12 +91,12 @@ pub fn clamps(state: &QSynthesis) -> bool {
 
 /// Document 01, number 2: false where the state is out of bounds.
 pub fn in_bounds(state: &QSynthesis) -> bool {
-    let word = -32_768..=32_767;
-    state.exc_hist.iter().all(|n| word.contains(n))
-        && state.syn_mem.iter().all(|n| word.contains(n))
-        && (0..=1_048_576).contains(&state.pf.agc_gain_q12)
-        && (17..=147).contains(&state.last_lag)
-        && (18..=145).contains(&state.last_lag2)
-        && (0..=32_767).contains(&state.last_taps_sum_q15)
-        && (0..=13_246).contains(&state.last_gain_unvoiced)
+    let within = |n: i32, (low, high): (i64, i64)| (low as i32..=high as i32).contains(&n);
+    state.exc_hist.iter().all(|&n| within(n, places::WORD))
+        && state.syn_mem.iter().all(|&n| within(n, places::WORD))
+        && within(state.pf.agc_gain_q12, places::GAIN)
+        && within(state.last_lag, places::LAST_LAG)
+        && within(state.last_lag2, places::BASE_LAG)
+        && within(state.last_taps_sum_q15, places::TAP_SUM)
+        && within(state.last_gain_unvoiced, places::UNVOICED_GAIN)
 }

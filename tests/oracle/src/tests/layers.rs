@@ -44,7 +44,9 @@ fn the_pulse_train_of_document_01() {
                 .iter()
                 .any(|r| r.contains(&j))
     };
-    let expected: Vec<&str> = (0..60).map(|j| if stands(j) { "2" } else { "0" }).collect();
+    let expected: Vec<&str> = (0..SUBFRAME)
+        .map(|j| if stands(j) { "2" } else { "0" })
+        .collect();
     assert_eq!(vector, expected.join(" "));
     assert_eq!(expected.iter().filter(|value| **value == "2").count(), 18);
 }
@@ -54,11 +56,12 @@ fn walk(mut code: u64, pulses: u64) -> Vec<usize> {
     let choose = |n: u64, k: u64| (0..k).fold(1, |ways, i| ways * n.saturating_sub(i) / (i + 1));
     let mut wanted = pulses;
     let mut slots = Vec::new();
-    for slot in 0..30 {
+    let last = SLOTS as u64 - 1;
+    for slot in 0..=last {
         if wanted == 0 {
             break;
         }
-        let weight = choose(29 - slot, wanted - 1);
+        let weight = choose(last - slot, wanted - 1);
         if code < weight {
             slots.push(slot as usize);
             wanted -= 1;
@@ -71,10 +74,10 @@ fn walk(mut code: u64, pulses: u64) -> Vec<usize> {
 
 #[test]
 fn the_walk_of_document_01_gives_the_same_slots_for_every_code() {
-    for (pulses, limit) in [(5, 142_506), (6, 593_775)] {
+    for (pulses, limit) in PULSES.into_iter().zip(CODE_LIMITS).take(2) {
         for code in 0..limit {
             let slots = fcbk_unpk_positions(code, pulses as usize);
-            assert_eq!(slots, Some(walk(u64::from(code), pulses)));
+            assert_eq!(slots, Some(walk(u64::from(code), pulses.into())));
         }
         assert_eq!(fcbk_unpk_positions(limit, pulses as usize), None);
     }
@@ -82,28 +85,34 @@ fn the_walk_of_document_01_gives_the_same_slots_for_every_code() {
 
 #[test]
 fn the_noise_word_starts_at_7ce538a8() {
-    let mut state = state_with(192, 13_246);
+    let most = i128::from(UNVOICED_GAIN.1);
+    let mut state = state_with(AT_UNVOICED_GAIN, most);
     state.decode_erased();
-    let level = (13_246 * 24_576) >> 15;
+    let level = (most * 24_576) >> 15;
     let mut word = 0x7CE5_38A8u32;
-    let noise: Vec<i128> = (0..240)
+    let noise: Vec<i128> = (0..FRAME)
         .map(|_| {
             word = word.wrapping_mul(1_664_525).wrapping_add(1_013_904_223);
             let value = i128::from((word >> 8) & 0xFFFF) - 32_768;
             (level * value) >> 15
         })
         .collect();
-    assert_eq!(state::to_numbers(&state)[10..156], noise[94..]);
+    let history = &state::to_numbers(&state)[AT_EXCITATION..AT_SYNTHESIS];
+    assert_eq!(history, &noise[FRAME - HISTORY..]);
 }
 
 #[test]
 fn the_gain_moves_by_the_floored_sixteenth() {
     // Silence leaves the target at 4096; the sixty steps of one subframe.
     let zeros = |count| "0 ".repeat(count);
-    for start in [0i32, 1, 5, 4096, 4112, 1_048_576] {
-        let gain = (0..60).fold(start, |gain, _| gain + ((4096 - gain) >> 4));
-        let question = format!("formant_agc_subframe {}{start}", zeros(92));
-        let expected = format!("{}{gain}", zeros(82));
+    let memory = POSTFILTER_NUMBERS - 1;
+    for start in [0, 1, 5, 4096, 4112, GAIN.1] {
+        let gain = (0..SUBFRAME).fold(start, |gain, _| gain + ((4096 - gain) >> 4));
+        let question = format!(
+            "formant_agc_subframe {}{start}",
+            zeros(LSPS + SUBFRAME + memory)
+        );
+        let expected = format!("{}{gain}", zeros(SUBFRAME + memory));
         assert_eq!(answer(&question), expected);
     }
 }
@@ -118,7 +127,10 @@ fn overflow_where_the_rust_panics() {
         ("wide_shift 0 1 128", "0 0"),
         ("wide_shift 0 1 127", "9223372036854775808 0"),
     ]);
-    let square = format!("pitch_postfilter 1 0 60 {}", "1048576 ".repeat(386));
+    let square = format!(
+        "pitch_postfilter 1 0 60 {}",
+        "1048576 ".repeat(HISTORY + FRAME)
+    );
     assert_eq!(answer(&square), "overflow");
 }
 
@@ -169,9 +181,9 @@ fn what_is_no_question() {
 
 #[test]
 fn an_erased_frame_as_a_question() {
-    let list = state::to_numbers(&state_with(192, 500));
+    let list = state::to_numbers(&state_with(AT_UNVOICED_GAIN, 500));
     let question = format!("decode_erased {}", crate::numbers::text(&list));
-    let mut state = state_with(192, 500);
+    let mut state = state_with(AT_UNVOICED_GAIN, 500);
     let samples = state.decode_erased().map(i128::from).into_iter();
     let expected = crate::numbers::text(samples.chain(state::to_numbers(&state)));
     assert_eq!(answer(&question), expected);

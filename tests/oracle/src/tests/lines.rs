@@ -4,7 +4,7 @@ use super::*;
 
 /// A line of zero samples.
 fn silence() -> String {
-    "0".repeat(960) + "\n"
+    "0".repeat(4 * FRAME) + "\n"
 }
 
 #[test]
@@ -39,9 +39,9 @@ fn what_is_not_digit_pairs() {
 #[test]
 fn either_letter_case() {
     let mut bytes = high();
-    bytes[25..35].fill(0xAB);
-    bytes[35] = 23;
-    bytes[38..41].copy_from_slice(&[0x0A, 0xBC, 0xDE]);
+    bytes[BYTE_BLOCKS..][..BLOCK_GAIN].fill(0xAB);
+    bytes[BYTE_BLOCKS + BLOCK_GAIN] = GAIN_MOST;
+    bytes[BYTE_BLOCKS + BLOCK_CODE..][..3].copy_from_slice(&[0x0A, 0xBC, 0xDE]);
     let line = hexadecimal(&bytes);
     let mixed: String = line
         .chars()
@@ -55,7 +55,7 @@ fn either_letter_case() {
         })
         .collect();
     let answer = printed(&line);
-    assert_eq!(answer.len(), 961);
+    assert_eq!(answer.len(), silence().len());
     assert_ne!(answer, silence());
     assert_eq!(printed(line.to_uppercase()), answer);
     assert_eq!(printed(mixed), answer);
@@ -64,18 +64,18 @@ fn either_letter_case() {
 
 #[test]
 fn the_longest_line() {
-    assert_eq!(printed(hexadecimal(&low())).len(), 961);
-    assert_eq!(printed("0".repeat(1_098)), "R05\nN05 1\n");
-    assert_eq!(printed("09".repeat(549)), "R04\nN04 1\n");
-    for length in [1_099, 1_100, 1_102, 70_000] {
+    assert_eq!(printed(hexadecimal(&low())), silence());
+    assert_eq!(printed("0".repeat(LONGEST_LINE)), "R05\nN05 1\n");
+    assert_eq!(printed("09".repeat(LOW_LENGTH)), "R04\nN04 1\n");
+    for length in [LONGEST_LINE + 1, LONGEST_LINE + 2, LONGEST_LINE + 4, 70_000] {
         assert_eq!(printed("0".repeat(length)), "R11\nN11 1\n");
     }
-    assert_eq!(printed("09".repeat(550)), "R11\nN11 1\n");
+    assert_eq!(printed("09".repeat(LOW_LENGTH + 1)), "R11\nN11 1\n");
 }
 
 #[test]
 fn counts_come_in_ascending_order() {
-    let line = hexadecimal(&with(&high(), 37, 64));
+    let line = hexadecimal(&with(&high(), BYTE_BLOCKS + BLOCK_SIGNS, 1 << PULSES[0]));
     let input = format!("0\n{line}\n09\n\n09\n00\nxx\n");
     let expected = "R11\nR10\nR04\nR03\nR04\n".to_string() + &silence();
     assert_eq!(
@@ -86,24 +86,30 @@ fn counts_come_in_ascending_order() {
 
 #[test]
 fn number_11_comes_before_number_2() {
-    let answer = printed_from(state_with(190, 17), "0\n\n00\n", false);
+    let answer = printed_from(
+        state_with(AT_BASE_LAG, (BASE_LAG.0 - 1).into()),
+        "0\n\n00\n",
+        false,
+    );
     assert_eq!(answer, "R11\nR02\nR02\nN02 2\nN11 1\n");
 }
 
 #[test]
 fn refused_lines_change_no_state() {
-    let mut bytes = high();
-    bytes[35] = 20;
+    let bytes = with(&high(), BYTE_BLOCKS + BLOCK_GAIN, 20);
     let frame = hexadecimal(&bytes);
     let between = format!("{frame}\n09\n00\n0\n\n{frame}\n");
     let heard: Vec<String> = printed(between)
         .lines()
-        .filter(|line| line.len() == 960)
+        .filter(|line| line.len() == 4 * FRAME)
         .map(String::from)
         .collect();
     let alone = printed(format!("{frame}\n00\n{frame}\n"));
     assert_eq!(heard, alone.lines().collect::<Vec<_>>());
-    assert_eq!(printed("0\n09\n\n00").lines().nth(3).unwrap().len(), 960);
+    assert_eq!(
+        printed("0\n09\n\n00").lines().nth(3).unwrap().len(),
+        4 * FRAME
+    );
 }
 
 #[test]
@@ -113,17 +119,16 @@ fn states_follow_each_answer() {
     assert_eq!(lines.len(), 5);
     assert_eq!(lines[1], lines[3]);
     let words: Vec<&str> = lines[1].split(' ').collect();
-    assert_eq!(words.len(), 1 + state::COUNT);
+    assert_eq!(words.len(), 1 + STATE_NUMBERS);
     assert_eq!(words[0], "S");
     // The erased run is 1, the postfilter is off.
-    assert_eq!(words[314..], ["1", "0"]);
+    assert_eq!(words[1 + AT_RUN..], ["1", "0"]);
 }
 
 #[test]
 fn a_state_read_again_continues_the_run() {
-    let mut bytes = high();
-    bytes[35] = 23;
-    bytes[25..35].fill(0x0F);
+    let mut bytes = with(&high(), BYTE_BLOCKS + BLOCK_GAIN, GAIN_MOST);
+    bytes[BYTE_BLOCKS..][..BLOCK_GAIN].fill(0x0F);
     let frame = hexadecimal(&bytes);
     let whole = printed_from(state::fresh(true), format!("{frame}\n{frame}\n00\n"), true);
     let lines: Vec<&str> = whole.lines().collect();
