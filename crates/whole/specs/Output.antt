@@ -36,7 +36,7 @@ numbersFrom s (l ∷ ls) = lineNumber s l ∷ numbersFrom (lineState s l) ls
 abbrev pub answersTo : List ℕ → List ℕ
 answersTo input = textFrom (freshState true) (linesOf input)
 
--- how many R lines of number n that has; of number 0, lines of samples
+-- how many R lines of number n these are, and of number 0 how many lines of samples
 abbrev pub countOf : List ℕ → ℕ → ℕ
 countOf input n = howMany n (numbersFrom (freshState true) (linesOf input))
 
