@@ -1,16 +1,8 @@
-// The bytes of a record, and where its fields stand.
+// Where the fields of a record stand.
 ghost use mathlib.Core.Path.{_≡_};
-ghost use Rattle.reader.specs.Fields.{byte};
 ghost use Rattle.layout.specs.Layout.{lagPlace, blockPlace};
 use excitation::Rate;
 use excitation::Subframe;
-
-// The byte at a place; 0 past the end.
-pub fn byte_at(record: &[u8], at: usize) -> u8
-    ensures { λ r. ⌜ r ≡ byte (now («record» .entry)) at ⌝ }
-{
-    reader::read_field(record, at).byte
-}
 
 // The byte of a subframe's base lag code.
 pub fn lag_place(s: Subframe) -> usize

@@ -1,2 +1,5 @@
 pub mod Promise
-pub mod Taken
+pub mod Places
+pub mod Cursor
+pub mod Lent
+pub mod Walks

@@ -1,18 +1,15 @@
-// The record reader: it refers to the record's bytes and keeps a cursor. What it reads is read by `byte_at` and `word_at`, which
-// take the slice and the place; `read_field`, which takes both as well, is what everything else calls.
+// The record reader: it refers to the record's bytes and keeps a cursor, which each read leaves past what it read. The work is
+// done by functions on a slice and a place; what the other crates call are `byte_field`, `word_field` and `code_field`, which
+// take a slice and a place too and make the reader.
 ghost use mathlib.Core.Path.{_≡_};
-ghost use Rattle.reader.specs.Fields.{byte, word};
+ghost use Prim.Native.Nat.{_+_, _*_};
+ghost use Rattle.reader.specs.Fields.{byte, word, code};
+ghost use Rattle.reader.specs.Cursor.{past, StandsAt, ReadOn, FieldAt};
 
 // The record's bytes, and the place of the field that is read next.
 pub struct Reader<'a> {
     pub src: &'a [u8],
     pub at: usize,
-}
-
-// What stands at a place: the byte there, and the 16-bit value that starts there.
-pub struct Field {
-    pub byte: u8,
-    pub word: i16,
 }
 
 fn byte_at(src: &[u8], at: usize) -> u8
@@ -36,36 +33,70 @@ fn word_at(src: &[u8], at: usize) -> i16
     }
 }
 
-// The cursor starts at the first byte.
-pub fn new<'a>(src: &'a [u8]) -> Reader<'a>
-    ensures { λ r. ⌜ (r .src ≡ src .entry) × (r .at ≡ 0) ⌝ }
+// The place past a byte.
+fn past_byte(at: usize) -> usize
+    ensures { λ r. ⌜ r ≡ past 1 at ⌝ }
 {
-    Reader { src, at: 0 }
+    if at < usize::MAX { at + 1 } else { at }
 }
 
-pub fn moved<'a>(r: Reader<'a>, at: usize) -> Reader<'a>
-    ensures { λ q. ⌜ (q .src ≡ r .entry .src) × (q .at ≡ at) ⌝ }
+// The place past a 16-bit value.
+fn past_word(at: usize) -> usize
+    ensures { λ r. ⌜ r ≡ past 2 at ⌝ }
 {
-    Reader { src: r.src, at }
+    past_byte(past_byte(at))
 }
 
-pub fn read_byte<'a>(r: Reader<'a>) -> u8
-    ensures { λ x. ⌜ x ≡ byte (now (r .entry .src)) (r .entry .at) ⌝ }
+// Three bytes as one number.
+fn joined(high: u8, middle: u8, low: u8) -> u32
+    ensures { λ r. ⌜ r ≡ high * 65536 + middle * 256 + low ⌝ }
 {
-    byte_at(r.src, r.at)
+    high as u32 * 65536 + middle as u32 * 256 + low as u32
 }
 
-pub fn read_word<'a>(r: Reader<'a>) -> i16
-    ensures { λ x. ⌜ x ≡ word (now (r .entry .src)) (r .entry .at) ⌝ }
+pub fn new<'a>(src: &'a [u8], at: usize) -> Reader<'a>
+    ensures { λ r. ⌜ StandsAt (src .entry) at r ⌝ }
 {
-    word_at(r.src, r.at)
+    Reader { src, at }
 }
 
-pub fn read_field(src: &[u8], at: usize) -> Field
-    ensures { λ r. ⌜ (r .byte ≡ byte (now (src .entry)) at) × (r .word ≡ word (now (src .entry)) at) ⌝ }
+pub fn read_byte<'s, 'a>(r: &'s mut Reader<'a>) -> u8
+    ensures { λ x. ⌜ ReadOn byte 1 (now (r .entry)) (now (r .exit)) x ⌝ }
 {
-    let r = moved(new(src), at);
-    let byte = read_byte(r);
-    let word = read_word(r);
-    Field { byte, word }
+    let at = r.at;
+    r.at = past_byte(at);
+    byte_at(r.src, at)
+}
+
+pub fn read_word<'s, 'a>(r: &'s mut Reader<'a>) -> i16
+    ensures { λ x. ⌜ ReadOn word 2 (now (r .entry)) (now (r .exit)) x ⌝ }
+{
+    let at = r.at;
+    r.at = past_word(at);
+    word_at(r.src, at)
+}
+
+pub fn byte_field(src: &[u8], at: usize) -> u8
+    ensures { λ x. ⌜ FieldAt byte (src .entry) at x ⌝ }
+{
+    let mut r = new(src, at);
+    read_byte(&mut r)
+}
+
+pub fn word_field(src: &[u8], at: usize) -> i16
+    ensures { λ x. ⌜ FieldAt word (src .entry) at x ⌝ }
+{
+    let mut r = new(src, at);
+    read_word(&mut r)
+}
+
+// The bytes are read one after the other.
+pub fn code_field(src: &[u8], at: usize) -> u32
+    ensures { λ x. ⌜ FieldAt code (src .entry) at x ⌝ }
+{
+    let mut r = new(src, at);
+    let high = read_byte(&mut r);
+    let middle = read_byte(&mut r);
+    let low = read_byte(&mut r);
+    joined(high, middle, low)
 }

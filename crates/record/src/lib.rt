@@ -1,7 +1,6 @@
 // The fields of a record, read from its bytes and a place.
 ghost use mathlib.Core.Path.{_≡_};
-ghost use Prim.Native.Nat.{_+_, _*_, _<_};
-ghost use Rattle.reader.specs.Fields.{byte, word};
+ghost use Prim.Native.Nat.{_<_};
 ghost use Rattle.record.specs.Record.{words, candidates, baseLag, lag, count, description, fixed, blockOf};
 use excitation::Rate;
 use excitation::Subframe;
@@ -17,13 +16,6 @@ pub struct Block {
     pub fixed: [i32; 60],
 }
 
-// The 16-bit value that starts at a place.
-fn word_at(record: &[u8], at: usize) -> i16
-    ensures { λ r. ⌜ r ≡ word (now («record» .entry)) at ⌝ }
-{
-    reader::read_field(record, at).word
-}
-
 // Ten candidate LSPs.
 pub fn candidate_lsps(record: &[u8]) -> [i16; 10]
     ensures { λ r. ⌜ r ≡ candidates (now («record» .entry)) ⌝ }
@@ -31,7 +23,7 @@ pub fn candidate_lsps(record: &[u8]) -> [i16; 10]
     let mut out = [0i16; 10];
     let mut k: usize = 0;
     while k < tables::LPC_ORDER {
-        out[k] = word_at(record, tables::LSPS_PLACE + 2 * k);
+        out[k] = reader::word_field(record, tables::LSPS_PLACE + 2 * k);
         k += 1;
     }
     out
@@ -40,7 +32,7 @@ pub fn candidate_lsps(record: &[u8]) -> [i16; 10]
 fn base_lag(record: &[u8], s: Subframe) -> u16
     ensures { λ r. ⌜ r ≡ baseLag (now («record» .entry)) s ⌝ }
 {
-    layout::byte_at(record, layout::lag_place(s)) as u16 + tables::PITCH_MIN as u16
+    reader::byte_field(record, layout::lag_place(s)) as u16 + tables::PITCH_MIN as u16
 }
 
 // Step codes 0, 1, 2, 3 add -1, 0, 1, 2 (the Rust's DELTA_LAG); an even subframe has none, and adds 0.
@@ -50,9 +42,9 @@ fn own_lag(record: &[u8], s: Subframe) -> i32
     let base = base_lag(record, s);
     let code = match s {
         Subframe::Zero => tables::STEP_CODE_ZERO,
-        Subframe::One => layout::byte_at(record, tables::STEP_1_PLACE),
+        Subframe::One => reader::byte_field(record, tables::STEP_1_PLACE),
         Subframe::Two => tables::STEP_CODE_ZERO,
-        Subframe::Three => layout::byte_at(record, tables::STEP_3_PLACE),
+        Subframe::Three => reader::byte_field(record, tables::STEP_3_PLACE),
     };
     base as i32 + (code as i32 - tables::STEP_CODE_ZERO as i32)
 }
@@ -64,7 +56,7 @@ fn taps_at(record: &[u8], at: usize) -> [i16; 5]
     let mut out = [0i16; 5];
     let mut k: usize = 0;
     while k < tables::ACB_TAPS {
-        out[k] = word_at(record, at + 2 * k);
+        out[k] = reader::word_field(record, at + 2 * k);
         k += 1;
     }
     out
@@ -77,21 +69,10 @@ fn values_at(record: &[u8], at: usize) -> [i32; 60]
     let mut out = [0i32; 60];
     let mut k: usize = 0;
     while k < tables::SUBFRAME_SIZE {
-        out[k] = word_at(record, at + 2 * k) as i32;
+        out[k] = reader::word_field(record, at + 2 * k) as i32;
         k += 1;
     }
     out
-}
-
-// Three bytes, big-endian.
-fn code_at(record: &[u8], at: usize) -> u32
-    requires { ⌜ at < 1000 ⌝ }
-    ensures { λ r. ⌜ r ≡ byte (now («record» .entry)) at * 65536 + byte (now («record» .entry)) (at + 1) * 256 + byte (now («record» .entry)) (at + 2) ⌝ }
-{
-    let high = layout::byte_at(record, at) as u32;
-    let middle = layout::byte_at(record, at + 1) as u32;
-    let low = layout::byte_at(record, at + 2) as u32;
-    high * 65536 + middle * 256 + low
 }
 
 fn pulse_count(s: Subframe) -> Count
@@ -109,12 +90,12 @@ fn pulse_description(record: &[u8], s: Subframe) -> Description
     ensures { λ r. ⌜ r ≡ description (now («record» .entry)) s ⌝ }
 {
     let at = layout::block_place(Rate::High, s);
-    let flags = layout::byte_at(record, at + tables::FLAGS_PLACE);
+    let flags = reader::byte_field(record, at + tables::FLAGS_PLACE);
     let n = pulse_count(s);
     let base = base_lag(record, s);
-    let code = code_at(record, at + tables::CODE_PLACE);
-    let signs = layout::byte_at(record, at + tables::SIGNS_PLACE);
-    let gain_index = layout::byte_at(record, at + tables::GAIN_INDEX_PLACE);
+    let code = reader::code_field(record, at + tables::CODE_PLACE);
+    let signs = reader::byte_field(record, at + tables::SIGNS_PLACE);
+    let gain_index = reader::byte_field(record, at + tables::GAIN_INDEX_PLACE);
     Description {
         count: n,
         train: flags / 2 % 2 == 1,
@@ -145,7 +126,7 @@ pub fn read_block(record: &[u8], rate: Rate, s: Subframe) -> Block
     let base = base_lag(record, s);
     let lag = own_lag(record, s);
     let taps = taps_at(record, at);
-    let gain_index = layout::byte_at(record, at + tables::GAIN_INDEX_PLACE);
+    let gain_index = reader::byte_field(record, at + tables::GAIN_INDEX_PLACE);
     let fixed = fixed_vector(record, rate, s);
     Block {
         base_lag: base as i32,

@@ -1,3 +1,1 @@
-pub mod Accepted
 pub mod Arms
-pub mod Kinds

@@ -32,7 +32,7 @@ fn record_bytes(kind: u8) -> usize
 fn either_above(record: &[u8], i: usize, j: usize, most: u8) -> bool
     ensures { λ r. ⌜ r ≡ (ltb most (byte (now («record» .entry)) i) || ltb most (byte (now («record» .entry)) j)) ⌝ }
 {
-    layout::byte_at(record, i) > most || layout::byte_at(record, j) > most
+    reader::byte_field(record, i) > most || reader::byte_field(record, j) > most
 }
 
 fn lag_code_above(record: &[u8]) -> bool
@@ -67,7 +67,7 @@ fn in_any(zero: bool, one: bool, two: bool, three: bool) -> bool
 fn gain_above(record: &[u8], rate: Rate, s: Subframe) -> bool
     ensures { λ r. ⌜ r ≡ ltb gainIndexMax (gainIndex rate (now («record» .entry)) s) ⌝ }
 {
-    layout::byte_at(
+    reader::byte_field(
         record,
         layout::block_place(rate, s) + tables::GAIN_INDEX_PLACE,
     )
@@ -88,14 +88,14 @@ fn any_gain_above(record: &[u8], rate: Rate) -> bool
 fn flags_wrong(record: &[u8], s: Subframe) -> bool
     ensures { λ r. ⌜ r ≡ wrongFlagsIn (now («record» .entry)) s ⌝ }
 {
-    let flags = layout::byte_at(
+    let flags = reader::byte_field(
         record,
         layout::block_place(Rate::High, s) + tables::FLAGS_PLACE,
     );
     if flags > tables::FLAGS_MAX {
         return true;
     }
-    let lag = layout::byte_at(record, layout::lag_place(s)) as i32 + tables::PITCH_MIN;
+    let lag = reader::byte_field(record, layout::lag_place(s)) as i32 + tables::PITCH_MIN;
     flags / 2 % 2 == 1 && lag >= tables::TRAIN_LAG_LIMIT
 }
 
@@ -113,7 +113,7 @@ fn any_flags_wrong(record: &[u8]) -> bool
 fn signs_wrong(record: &[u8], s: Subframe) -> bool
     ensures { λ r. ⌜ r ≡ wrongSignsIn (now («record» .entry)) s ⌝ }
 {
-    let signs = layout::byte_at(
+    let signs = reader::byte_field(
         record,
         layout::block_place(Rate::High, s) + tables::SIGNS_PLACE,
     );
@@ -174,7 +174,7 @@ pub fn examine(record: &[u8]) -> Found
     if record.len() == 0 {
         return Found::Refused(Refusal::NoByte);
     }
-    let kind = layout::byte_at(record, 0);
+    let kind = reader::byte_field(record, 0);
     if kind > tables::KIND_MAX {
         return Found::Refused(Refusal::Kind);
     }

@@ -19,7 +19,7 @@ use Rattle.voicing.specs.Voicing.{voicingOf}
 use Rattle.reader.specs.Fields.{byte}
 use Rattle.record.specs.Record.{blockOf}
 use Rattle.refusals.specs.Refusals.{found}
-use Rattle.refusals.proofs.Accepted.{codes-high, codes-low}
+use Rattle.theorems.proofs.Accepted.{codes-high, codes-low}
 use Rattle.numbers.specs.declared.Refusal.the-variants.{SampleLength, StateBounds}
 use Rattle.refusals.specs.declared.Found.{Found}
 use Rattle.refusals.specs.declared.Found.the-variants.{Erased, High, Low, Refused}
@@ -76,7 +76,7 @@ module _ (s : State) (h : inBounds s ≡ true) where
     received-last : LastIn (receivedLast s rate r)
     received-last =
         let most = unvoiced-gain-most (blockOf rate r Two .«gain_index») (blockOf rate r Three .«gain_index») in
-        (lag-bounds rate r c d, lag2-bounds rate r c, tap-sum-bounds (blockOf rate r Three .taps), omega line, tt)
+        (lag-bounds rate r c d, (lag2-bounds rate r c, (tap-sum-bounds (blockOf rate r Three .taps), (omega line, tt))))
 
     received-in : inBounds (receivedState s rate r) ≡ true
     unfolding receivedState

@@ -1,7 +1,7 @@
 -- Numbers 8 to 10 refuse every description that is not accepted; a block's fixed vector is defined as its description's.
 use mathlib.Core.Path.{refl}
 use Rattle.record.specs.Record.{blockOf}
-use Rattle.refusals.proofs.Accepted.{accepted-description}
+use Rattle.theorems.proofs.Accepted.{accepted-description}
 use Rattle.theorems.specs.Descriptions.{AcceptedDescriptions}
 
 pub accepted-descriptions : AcceptedDescriptions

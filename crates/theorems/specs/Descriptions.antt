@@ -2,7 +2,8 @@
 use mathlib.Core.Path.{_≡_}
 use mathlib.Core.List.{List}
 use Prim.Native.Nat.{ℕ}
-use Rattle.pulses.specs.Pulses.{vector, Accepted}
+use Rattle.pulses.specs.Pulses.{vector}
+use Rattle.vectors.specs.Vectors.{Accepted}
 use Rattle.excitation.specs.declared.Subframe.{Subframe}
 use Rattle.excitation.specs.declared.Rate.the-variants as rates
 use Rattle.record.specs.Record.{description}

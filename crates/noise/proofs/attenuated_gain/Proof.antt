@@ -8,7 +8,8 @@ use Rattle.integers.specs.Bound.{within-fits, within-mul, fits-within}
 use Rattle.integers.specs.Expression.{is-arg, is-result, is-cast, is-mul, is-shr, need-cast, need-mul}
 use Rattle.integers.specs.Signed.{widen}
 use Rattle.noise.specs.Noise.{attenuation, attenuated}
-use Rattle.noise.proofs.Bounds.{attenuation-most, attenuated-fits}
+use Rattle.noise.proofs.Attenuation.{attenuation-most}
+use Rattle.noise.proofs.Bounds.{attenuated-fits}
 use Rattle.noise.proofs.attenuated_gain.Statement.{statement}
 use Rattle.noise.proofs.attenuated_gain.Tie as tie
 

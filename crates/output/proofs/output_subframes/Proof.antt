@@ -77,10 +77,10 @@ loop-again c =
     let m = 60 * k + 60 - 60 * k in
     let o = a .samples .now in
     let x = l .loop .samples in
-    let written = r .ensures .1 ∙ ap (subframeOutput (a .on) (getD (a .t3) k []) (getD (a .t4) k [])) (v .3) in
+    let part = r .ensures .1 ∙ ap (subframeOutput (a .on) (getD (a .t3) k []) (getD (a .t4) k [])) (v .3) in
     let passed = r .ensures .0 ∙ ap (filtersAfter (a .on) (getD (a .t3) k []) (getD (a .t4) k [])) (v .3) in
     let e : putMid (60 * k) m x (r .last .0) ≡ written (a .on) (a .t3) (a .t4) (a .f) o (k + 1)
-    = ap (putMid (60 * k) m x) written ∙ written-next (a .on) (a .t3) (a .t4) (a .f) o x k m (omega arith) (v .1) in (
+    = ap (putMid (60 * k) m x) part ∙ written-next (a .on) (a .t3) (a .t4) (a .f) o x k m (omega arith) (v .1) in (
       omega arith,
       e,
       ap length e ∙ written-length (a .on) (a .t3) (a .t4) (a .f) o (k + 1) (l .before .pre) (omega arith),

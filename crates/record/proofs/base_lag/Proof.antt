@@ -8,8 +8,8 @@ use Rattle.record.proofs.base_lag.Tie as tie
 lag-place-requires : tie.Need-lag-place-requires
 lag-place-requires c κs = tt
 
-byte-at-requires : tie.Need-byte-at-requires
-byte-at-requires c κs = tt
+byte-field-requires : tie.Need-byte-field-requires
+byte-field-requires c κs = tt
 
 cast-result : tie.Need-cast-result
 cast-result c = omega arith
@@ -23,9 +23,9 @@ add-result c = omega arith
 returns : tie.Need-returns
 returns c =
     let s = c .before .before .before in
-    λ i. (c .byte-at .ensures ∙ (λ j. byte (s .args .«record» .now) (c .before .lag-place .ensures j))) i + 18
+    λ i. (c .byte-field .ensures ∙ (λ j. byte (s .args .«record» .now) (c .before .lag-place .ensures j))) i + 18
 
 pub base-lag-spec : {M : Type 1} → statement M
 base-lag-spec =
     tie.close
-    (tie.spec lag-place-requires byte-at-requires cast-result cast-result-2 add-result returns)
+    (tie.spec lag-place-requires byte-field-requires cast-result cast-result-2 add-result returns)

@@ -41,8 +41,8 @@ enum-told c = search needs
 enum-told-2 : tie.Need-enum-told-2
 enum-told-2 c = search needs
 
-byte-at-requires : tie.Need-byte-at-requires
-byte-at-requires c κs = tt
+byte-field-requires : tie.Need-byte-field-requires
+byte-field-requires c κs = tt
 
 enum-told-3 : tie.Need-enum-told-3
 enum-told-3 c = search needs
@@ -50,8 +50,8 @@ enum-told-3 c = search needs
 enum-told-4 : tie.Need-enum-told-4
 enum-told-4 c = search needs
 
-byte-at-requires-2 : tie.Need-byte-at-requires-2
-byte-at-requires-2 c κs = tt
+byte-field-requires-2 : tie.Need-byte-field-requires-2
+byte-field-requires-2 c κs = tt
 
 -- the base lag and the step, as they are read
 module _ (c : tie.At-match-came) where
@@ -116,10 +116,10 @@ own-lag-spec =
     base-lag-requires
     enum-told
     enum-told-2
-    byte-at-requires
+    byte-field-requires
     enum-told-3
     enum-told-4
-    byte-at-requires-2
+    byte-field-requires-2
     cast-result
     cast-result-2
     cast-result-3

@@ -3,7 +3,9 @@ use Prim.Native.Nat.{_+_, _*_, _/_, _%_, _≤_}
 use native.Mathlib.Omega.{arith}
 use lib.Dec.{eqb}
 use Rattle.excitation.specs.declared.Rate.the-variants.{High}
+use Rattle.tables.specs.Constants.{gainIndexPlace, flagsPlace, signsPlace, codePlace}
 use Rattle.reader.specs.Fields.{byte}
+use Rattle.reader.specs.Fields.{code as codeAt}
 use Rattle.layout.specs.Layout.{blockPlace}
 use Rattle.layout.proofs.Places.{block-place-bound}
 use Rattle.record.proofs.pulse_description.Statement.{statement}
@@ -15,11 +17,11 @@ block-place-requires c κs = tt
 place-small : (c : tie.After-block-place) → c .block-place .result ≤ 418
 place-small c = omega (arith, c .block-place .ensures, block-place-bound High (c .before .before .args .s))
 
-add-byte-at : tie.Need-add-byte-at
-add-byte-at c = omega (arith, place-small c)
+add-byte-field : tie.Need-add-byte-field
+add-byte-field c = omega (arith, place-small c)
 
-byte-at-requires : tie.Need-byte-at-requires
-byte-at-requires c κs = tt
+byte-field-requires : tie.Need-byte-field-requires
+byte-field-requires c κs = tt
 
 pulse-count-requires : tie.Need-pulse-count-requires
 pulse-count-requires c κs = tt
@@ -27,23 +29,23 @@ pulse-count-requires c κs = tt
 base-lag-requires : tie.Need-base-lag-requires
 base-lag-requires c κs = tt
 
-add-code-at : tie.Need-add-code-at
-add-code-at c = omega (arith, place-small (c .before .before .before))
+add-code-field : tie.Need-add-code-field
+add-code-field c = omega (arith, place-small (c .before .before .before))
 
-code-at-requires : tie.Need-code-at-requires
-code-at-requires c κs = omega (arith, place-small (c .before .before .before))
+code-field-requires : tie.Need-code-field-requires
+code-field-requires c κs = tt
 
-add-byte-at-2 : tie.Need-add-byte-at-2
-add-byte-at-2 c = omega (arith, place-small (c .before .before .before .before))
+add-byte-field-2 : tie.Need-add-byte-field-2
+add-byte-field-2 c = omega (arith, place-small (c .before .before .before .before))
 
-byte-at-requires-2 : tie.Need-byte-at-requires-2
-byte-at-requires-2 c κs = tt
+byte-field-requires-2 : tie.Need-byte-field-requires-2
+byte-field-requires-2 c κs = tt
 
-add-byte-at-3 : tie.Need-add-byte-at-3
-add-byte-at-3 c = omega (arith, place-small (c .before .before .before .before .before))
+add-byte-field-3 : tie.Need-add-byte-field-3
+add-byte-field-3 c = omega (arith, place-small (c .before .before .before .before .before))
 
-byte-at-requires-3 : tie.Need-byte-at-requires-3
-byte-at-requires-3 c κs = tt
+byte-field-requires-3 : tie.Need-byte-field-requires-3
+byte-field-requires-3 c κs = tt
 
 cast-t15 : tie.Need-cast-t15
 cast-t15 c = omega arith
@@ -55,19 +57,17 @@ returns c =
     let a = f .before .before .before .args in
     let r = a .«record» .now in
     let p = f .before .block-place .ensures in
-    let flags : f .byte-at .result ≡ byte r (blockPlace High (a .s) + 11) = f .byte-at .ensures ∙ (λ i. byte r (p i + 11)) in
-    let middle : f .before .block-place .result + 13 + 1 ≡ blockPlace High (a .s) + 14 = omega (arith, p) in
-    let low : f .before .block-place .result + 13 + 2 ≡ blockPlace High (a .s) + 15 = omega (arith, p) in
-    let code = c .before .before .code-at .ensures in
+    let flags : f .byte-field .result ≡ byte r (blockPlace High (a .s) + flagsPlace) = f .byte-field .ensures ∙ (λ i. byte r (p i + flagsPlace)) in
+    let code = c .before .before .code-field .ensures in
     λ i.
     record {
       count = g .before .pulse-count .ensures i;
       train = eqb (flags i / 2 % 2) 1;
       «base_lag» = g .base-lag .ensures i;
       grid = eqb (flags i % 2) 1;
-      code = (code ∙ (λ j. byte r (p j + 13) * 65536 + byte r (middle j) * 256 + byte r (low j))) i;
-      signs = (c .before .byte-at2 .ensures ∙ (λ j. byte r (p j + 12))) i;
-      «gain_index» = (c .byte-at3 .ensures ∙ (λ j. byte r (p j + 10))) i;
+      code = (code ∙ (λ j. codeAt r (p j + codePlace))) i;
+      signs = (c .before .byte-field2 .ensures ∙ (λ j. byte r (p j + signsPlace))) i;
+      «gain_index» = (c .byte-field3 .ensures ∙ (λ j. byte r (p j + gainIndexPlace))) i;
     }
 
 pub pulse-description-spec : {M : Type 1} → statement M
@@ -75,15 +75,15 @@ pulse-description-spec =
     tie.close
     (tie.spec
     block-place-requires
-    add-byte-at
-    byte-at-requires
+    add-byte-field
+    byte-field-requires
     pulse-count-requires
     base-lag-requires
-    add-code-at
-    code-at-requires
-    add-byte-at-2
-    byte-at-requires-2
-    add-byte-at-3
-    byte-at-requires-3
+    add-code-field
+    code-field-requires
+    add-byte-field-2
+    byte-field-requires-2
+    add-byte-field-3
+    byte-field-requires-3
     cast-t15
     returns)

@@ -25,11 +25,11 @@ place-small c = let a = c .before .before .args in omega (arith, c .block-place 
 taps-at-requires : tie.Need-taps-at-requires
 taps-at-requires c κs = omega (arith, place-small (c .before .before))
 
-add-byte-at : tie.Need-add-byte-at
-add-byte-at c = omega (arith, place-small (c .before .before .before))
+add-byte-field : tie.Need-add-byte-field
+add-byte-field c = omega (arith, place-small (c .before .before .before))
 
-byte-at-requires : tie.Need-byte-at-requires
-byte-at-requires c κs = tt
+byte-field-requires : tie.Need-byte-field-requires
+byte-field-requires c κs = tt
 
 fixed-vector-requires : tie.Need-fixed-vector-requires
 fixed-vector-requires c κs = tt
@@ -49,7 +49,7 @@ returns c =
       «base_lag» = back w32 {r = pos (b .base-lag .result)} (omega arith) (ap pos (b .base-lag .ensures)) i;
       lag = back w32 (t .before .own-lag .ok) (t .before .own-lag .ensures) i;
       taps = (t .taps-at .ensures ∙ (λ j. words r (p .ensures j) 5)) i;
-      «gain_index» = (c .before .byte-at .ensures ∙ (λ j. byte r (p .ensures j + 10))) i;
+      «gain_index» = (c .before .byte-field .ensures ∙ (λ j. byte r (p .ensures j + 10))) i;
       fixed = c .fixed-vector .ensures i;
     }
 
@@ -61,8 +61,8 @@ read-block-spec =
     base-lag-requires
     own-lag-requires
     taps-at-requires
-    add-byte-at
-    byte-at-requires
+    add-byte-field
+    byte-field-requires
     fixed-vector-requires
     cast-t11
     returns)

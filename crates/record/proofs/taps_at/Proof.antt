@@ -18,14 +18,14 @@ abbrev μ-loop : tie.MeasureT-loop
 loop-holds : tie.Need-loop-holds Inv-loop μ-loop
 loop-holds c = fills-start refl
 
-mul-word-at : tie.Need-mul-word-at Inv-loop μ-loop
-mul-word-at c = omega arith
+mul-word-field : tie.Need-mul-word-field Inv-loop μ-loop
+mul-word-field c = omega arith
 
-add-word-at : tie.Need-add-word-at Inv-loop μ-loop
-add-word-at c = omega arith
+add-word-field : tie.Need-add-word-field Inv-loop μ-loop
+add-word-field c = omega arith
 
-word-at-requires : tie.Need-word-at-requires Inv-loop μ-loop
-word-at-requires c κs = omega arith
+word-field-requires : tie.Need-word-field-requires Inv-loop μ-loop
+word-field-requires c κs = omega arith
 
 mul-out : tie.Need-mul-out Inv-loop μ-loop
 mul-out c = omega arith
@@ -40,7 +40,7 @@ loop-less : tie.Need-loop-less Inv-loop μ-loop
 loop-less c = omega arith
 
 loop-again : tie.Need-loop-again Inv-loop μ-loop
-loop-again c = fills-next (c .before .before .loop .inv) (omega arith) (back w16 (c .word-at .ok) (c .word-at .ensures))
+loop-again c = fills-next (c .before .before .loop .inv) (omega arith) (back w16 (c .word-field .ok) (c .word-field .ensures))
 
 returns : tie.Need-returns Inv-loop μ-loop
 returns c = fills-end (c .before .loop .inv) (c .loop-test .left)
@@ -52,9 +52,9 @@ taps-at-spec =
     Inv-loop
     μ-loop
     loop-holds
-    mul-word-at
-    add-word-at
-    word-at-requires
+    mul-word-field
+    add-word-field
+    word-field-requires
     mul-out
     array-set-from-out
     add-k

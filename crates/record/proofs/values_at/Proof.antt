@@ -20,22 +20,22 @@ abbrev μ-loop : tie.MeasureT-loop
 loop-holds : tie.Need-loop-holds Inv-loop μ-loop
 loop-holds c = fills-start refl
 
-mul-word-at : tie.Need-mul-word-at Inv-loop μ-loop
-mul-word-at c = omega arith
+mul-word-field : tie.Need-mul-word-field Inv-loop μ-loop
+mul-word-field c = omega arith
 
-add-word-at : tie.Need-add-word-at Inv-loop μ-loop
-add-word-at c = omega arith
+add-word-field : tie.Need-add-word-field Inv-loop μ-loop
+add-word-field c = omega arith
 
-word-at-requires : tie.Need-word-at-requires Inv-loop μ-loop
-word-at-requires c κs = omega arith
+word-field-requires : tie.Need-word-field-requires Inv-loop μ-loop
+word-field-requires c κs = omega arith
 
 -- the value that a turn reads
-module _ (c : tie.After-word-at Inv-loop μ-loop) where
-  value : Is w16 (ofZ w16 (c .word-at .result)) (c .word-at .result)
-  value = is-mag (c .word-at .result) (c .word-at .ok)
+module _ (c : tie.After-word-field Inv-loop μ-loop) where
+  value : Is w16 (ofZ w16 (c .word-field .result)) (c .word-field .result)
+  value = is-mag (c .word-field .result) (c .word-field .ok)
 
-  value-fits : SFits w32 (c .word-at .result)
-  value-fits = widen {w = w16} (record { sfits = c .word-at .ok }) tt
+  value-fits : SFits w32 (c .word-field .result)
+  value-fits = widen {w = w16} (record { sfits = c .word-field .ok }) tt
 
 cast-out : tie.Need-cast-out Inv-loop μ-loop
 cast-out c = need-cast (value c) (value-fits c)
@@ -54,7 +54,7 @@ loop-less c = omega arith
 
 loop-again : tie.Need-loop-again Inv-loop μ-loop
 loop-again c =
-    fills-next (c .before .before .loop .inv) (omega arith) (is-cast (value c) (value-fits c) .is ∙ c .word-at .ensures)
+    fills-next (c .before .before .loop .inv) (omega arith) (is-cast (value c) (value-fits c) .is ∙ c .word-field .ensures)
 
 returns : tie.Need-returns Inv-loop μ-loop
 returns c = fills-end (c .before .loop .inv) (c .loop-test .left)
@@ -66,9 +66,9 @@ values-at-spec =
     Inv-loop
     μ-loop
     loop-holds
-    mul-word-at
-    add-word-at
-    word-at-requires
+    mul-word-field
+    add-word-field
+    word-field-requires
     cast-out
     mul-out
     array-set-from-out

@@ -20,38 +20,38 @@ use Rattle.refusals.proofs.flags_wrong.Tie as tie
 block-place-requires : tie.Need-block-place-requires
 block-place-requires c κs = tt
 
-add-byte-at : tie.Need-add-byte-at
-add-byte-at c = omega (arith, c .block-place .ensures, block-place-bound High (c .before .before .args .s))
+add-byte-field : tie.Need-add-byte-field
+add-byte-field c = omega (arith, c .block-place .ensures, block-place-bound High (c .before .before .args .s))
 
-byte-at-requires : tie.Need-byte-at-requires
-byte-at-requires c κs = tt
+byte-field-requires : tie.Need-byte-field-requires
+byte-field-requires c κs = tt
 
-abbrev r : tie.After-byte-at → List ℕ
+abbrev r : tie.After-byte-field → List ℕ
 r c = c .before .before .before .args .«record» .now
 
-read : (c : tie.After-byte-at) → c .byte-at .result ≡ flags (r c) (c .before .before .before .args .s)
-read c = c .byte-at .ensures ∙ ap (λ (n : ℕ). byte (r c) (n + 11)) (c .before .block-place .ensures)
+read : (c : tie.After-byte-field) → c .byte-field .result ≡ flags (r c) (c .before .before .before .args .s)
+read c = c .byte-field .ensures ∙ ap (λ (n : ℕ). byte (r c) (n + 11)) (c .before .block-place .ensures)
 
 returns : tie.Need-returns
 returns c =
-    let h = lt-ltb 3 (c .before .byte-at .result) (c .if1 .taken) in
+    let h = lt-ltb 3 (c .before .byte-field .result) (c .if1 .taken) in
     sym h ∙ or-here _ (ap (ltb 3) (read (c .before))) h
 
 lag-place-requires : tie.Need-lag-place-requires
 lag-place-requires c κs = tt
 
-byte-at-requires-2 : tie.Need-byte-at-requires-2
-byte-at-requires-2 c κs = tt
+byte-field-requires-2 : tie.Need-byte-field-requires-2
+byte-field-requires-2 c κs = tt
 
 cast-lag : tie.Need-cast-lag
 cast-lag c = record { sfits = omega arith }
 
 -- the base lag
-module _ (c : tie.After-byte-at2) where
-  code : Is w32 (c .byte-at2 .result) (pos (c .byte-at2 .result))
-  code = is-mag (pos (c .byte-at2 .result)) (omega arith)
+module _ (c : tie.After-byte-field2) where
+  code : Is w32 (c .byte-field2 .result) (pos (c .byte-field2 .result))
+  code = is-mag (pos (c .byte-field2 .result)) (omega arith)
 
-  lag-fits : SFits w32 (pos (c .byte-at2 .result) +ℤ pos 18)
+  lag-fits : SFits w32 (pos (c .byte-field2 .result) +ℤ pos 18)
   lag-fits = record { sfits = omega arith }
 
 add-lag : tie.Need-add-lag
@@ -61,16 +61,16 @@ returns-2 : tie.Need-returns-2
 returns-2 c =
     let l = c .before in
     let f = l .before .before in
-    let b = f .before .byte-at .result in
+    let b = f .before .byte-field .result in
     or-there (ap (ltb 3) (read (f .before))) (le-ltb 3 b (f .if1 .left))
     (and-there (ap (λ (n : ℕ). eqb (n / 2 % 2) 1) (read (f .before))) (eq-eqb (b / 2 % 2) 1 (c .if2 .taken))
     (is-le (is-lit w32 58) (is-add (code l) (is-lit w32 18) (lag-fits l))
-    ∙ ap (λ (n : ℕ). leb 58 (n + 18)) (l .byte-at2 .ensures ∙ ap (byte (r (f .before))) (l .before .lag-place .ensures))))
+    ∙ ap (λ (n : ℕ). leb 58 (n + 18)) (l .byte-field2 .ensures ∙ ap (byte (r (f .before))) (l .before .lag-place .ensures))))
 
 returns-3 : tie.Need-returns-3
 returns-3 c =
     let f = c .before .before .before in
-    let b = f .before .byte-at .result in
+    let b = f .before .byte-field .result in
     or-there (ap (ltb 3) (read (f .before))) (le-ltb 3 b (f .if1 .left))
     (and-here _ (ap (λ (n : ℕ). eqb (n / 2 % 2) 1) (read (f .before))) (ne-eqb (b / 2 % 2) 1 (c .if2 .left)))
 
@@ -79,11 +79,11 @@ flags-wrong-spec =
     tie.close
     (tie.spec
     block-place-requires
-    add-byte-at
-    byte-at-requires
+    add-byte-field
+    byte-field-requires
     returns
     lag-place-requires
-    byte-at-requires-2
+    byte-field-requires-2
     cast-lag
     add-lag
     returns-2

@@ -11,16 +11,16 @@ use Rattle.refusals.proofs.gain_above.Tie as tie
 block-place-requires : tie.Need-block-place-requires
 block-place-requires c κs = tt
 
-add-byte-at : tie.Need-add-byte-at
-add-byte-at c = let a = c .before .before .args in omega (arith, c .block-place .ensures, block-place-bound (a .rate) (a .s))
+add-byte-field : tie.Need-add-byte-field
+add-byte-field c = let a = c .before .before .args in omega (arith, c .block-place .ensures, block-place-bound (a .rate) (a .s))
 
-byte-at-requires : tie.Need-byte-at-requires
-byte-at-requires c κs = tt
+byte-field-requires : tie.Need-byte-field-requires
+byte-field-requires c κs = tt
 
 returns : tie.Need-returns
 returns c =
     let r = c .before .before .before .args .«record» .now in
-    ap (ltb gainIndexMax) (c .byte-at .ensures ∙ ap (λ (n : ℕ). byte r (n + 10)) (c .before .block-place .ensures))
+    ap (ltb gainIndexMax) (c .byte-field .ensures ∙ ap (λ (n : ℕ). byte r (n + 10)) (c .before .block-place .ensures))
 
 pub gain-above-spec : {M : Type 1} → statement M
-gain-above-spec = tie.close (tie.spec block-place-requires add-byte-at byte-at-requires returns)
+gain-above-spec = tie.close (tie.spec block-place-requires add-byte-field byte-field-requires returns)

@@ -17,11 +17,11 @@ use Rattle.refusals.proofs.signs_wrong.Tie as tie
 block-place-requires : tie.Need-block-place-requires
 block-place-requires c κs = tt
 
-add-byte-at : tie.Need-add-byte-at
-add-byte-at c = omega (arith, c .block-place .ensures, block-place-bound High (c .before .before .args .s))
+add-byte-field : tie.Need-add-byte-field
+add-byte-field c = omega (arith, c .block-place .ensures, block-place-bound High (c .before .before .args .s))
 
-byte-at-requires : tie.Need-byte-at-requires
-byte-at-requires c κs = tt
+byte-field-requires : tie.Need-byte-field-requires
+byte-field-requires c κs = tt
 
 enum-told : tie.Need-enum-told
 enum-told c = search needs
@@ -36,17 +36,17 @@ enum-told-4 : tie.Need-enum-told-4
 enum-told-4 c = search needs
 
 -- the test in the subframe that a match tells
-module _ (c : tie.After-byte-at) where
+module _ (c : tie.After-byte-field) where
   abbrev r : List ℕ
   r = c .before .before .before .args .«record» .now
 
   abbrev s : Subframe
   s = c .before .before .before .args .s
 
-  read : c .byte-at .result ≡ signs r s
-  read = c .byte-at .ensures ∙ ap (λ (n : ℕ). byte r (n + 12)) (c .before .block-place .ensures)
+  read : c .byte-field .result ≡ signs r s
+  read = c .byte-field .ensures ∙ ap (λ (n : ℕ). byte r (n + 12)) (c .before .block-place .ensures)
 
-  tested : {t : Subframe} → s ≡ t → leb (2 ^ pulses (count t)) (c .byte-at .result) ≡ wrongSignsIn r s
+  tested : {t : Subframe} → s ≡ t → leb (2 ^ pulses (count t)) (c .byte-field .result) ≡ wrongSignsIn r s
   tested e = λ i. leb (2 ^ pulses (count (sym e i))) (read i)
 
 returns : tie.Need-returns
@@ -66,8 +66,8 @@ signs-wrong-spec =
     tie.close
     (tie.spec
     block-place-requires
-    add-byte-at
-    byte-at-requires
+    add-byte-field
+    byte-field-requires
     enum-told
     enum-told-2
     enum-told-3

@@ -1,0 +1,3 @@
+pub mod Distinct
+pub mod Trains
+pub mod EqualVectors

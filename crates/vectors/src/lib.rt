@@ -1,0 +1,1 @@
+// The theorem on equal vectors, and no code: specs/ has its statement.
