@@ -1,4 +1,4 @@
-// How often each number was given, and the closing lines that say so.
+// How often each number was given, and the closing lines of these counts.
 ghost use mathlib.Core.Path.{_≡_};
 ghost use mathlib.Core.List.{List, [], _∷_, _++_};
 ghost use mathlib.Core.Bool.{cond};

@@ -23,6 +23,7 @@ pushed l b =
     (record { text = set (l .text) (l .len) b; len = l .len + 1; over = l .over })
     (record { text = l .text; len = l .len; over = true })
 
+-- the characters xs more
 unfoldable pub pushedAll : Line → List ℕ → Line
 pushedAll l [] = l
 pushedAll l (b ∷ xs) = pushedAll (pushed l b) xs
@@ -35,6 +36,7 @@ blank = record { text = replicate lineMax 0; len = 0; over = false }
 abbrev pub characters : Line → List ℕ
 characters l = take (l .len) (l .text)
 
+-- it is a record: digit pairs, and not too long
 abbrev pub isRecord : Line → Bool
 isRecord l = not (l .over) && arePairs (characters l)
 

@@ -10,7 +10,7 @@ ghost use Rattle.lines.specs.Stream.{pushedAll, blank, freshStream, text
 ghost use Rattle.lines.specs.Parts.{answerLine, replyOf, lineReply, textReply, progressBy, newlineAt};
 use state::State;
 
-// A line that has not ended: `len` characters stand in `text`. `over` says that there were more.
+// A line that has not ended: `len` characters stand in `text`, and `over` is set where there were more.
 pub struct Line {
     pub text: [u8; 1098],
     pub len: usize,

@@ -1,4 +1,4 @@
--- The program's calls, piece by piece, give the whole output (document 01, "Program `frames`"), however the input is cut into pieces. proofs/Whole.antt proves it.
+-- The program's calls, piece by piece, give the whole output (document 01, "Program `frames`"), however the input is cut into pieces, and the tallies that it answers are the counts. proofs/Whole.antt proves both.
 use mathlib.Core.List.{List, [], _∷_, _++_}
 use mathlib.Core.Path.{_≡_}
 use Prim.Native.Nat.{ℕ, zero, suc, min}
