@@ -1,11 +1,15 @@
-// How often each number was given, and the closing lines that say so.
+// How often each number was given, and the closing lines of these counts.
 ghost use mathlib.Core.Path.{_≡_};
 ghost use mathlib.Core.List.{List, [], _∷_, _++_};
 ghost use mathlib.Core.Bool.{cond};
 ghost use lib.Dec.{ltb};
 ghost use Prim.Native.Nat.{ℕ, _≤_, _<_, _+_};
 ghost use lib.ListN.{length, getD, replicate};
+ghost use Rattle.tables.specs.Constants.{numbersCounted};
 ghost use Rattle.counts.specs.Counts.{counted, countLine, Closes, closingText};
+
+// How many numbers are counted, in the width of a number.
+const NUMBERS: u8 = tables::NUMBERS as u8;
 
 // Text of at most eleven lines of 25 characters, and its length.
 pub struct Closing {
@@ -15,7 +19,7 @@ pub struct Closing {
 
 // No number was given.
 pub fn no_tallies() -> [u64; 12]
-    ensures { λ r. ⌜ r ≡ replicate 12 0 ⌝ }
+    ensures { λ r. ⌜ r ≡ replicate numbersCounted 0 ⌝ }
 {
     [0u64; 12]
 }
@@ -26,7 +30,7 @@ pub fn count(tallies: [u64; 12], n: u8) -> [u64; 12]
 {
     let mut t = tallies;
     let k = n as usize;
-    if k < 12 && t[k] < u64::MAX {
+    if k < tables::NUMBERS && t[k] < u64::MAX {
         t[k] = t[k] + 1;
     }
     t
@@ -88,7 +92,7 @@ pub fn closing_lines(tallies: [u64; 12]) -> Closing
         len: 0,
     };
     let mut n: u8 = 1;
-    while n < 12 {
+    while n < NUMBERS {
         let next = number_closed(c, n, tallies[n as usize]);
         c = next;
         n += 1;

@@ -73,6 +73,10 @@ glyph d = cond (ltb d 10) (48 + d) (55 + d)
 abbrev pub digitAt : List ℤ → ℕ → ℕ
 digitAt xs k = glyph (image (entry xs (k / 4)) / 16 ^ (3 - k % 4) % 16)
 
+-- four characters a sample, and a newline
+abbrev pub sampleLineBytes : ℕ
+sampleLineBytes = 4 * frameSize + 1
+
 -- 240 samples as 960 characters and a newline
 unfoldable pub sampleLine : List ℤ → List ℕ
 sampleLine xs = tabulate (digitAt xs) (4 * frameSize) ++ (10 ∷ [])

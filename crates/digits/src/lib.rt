@@ -6,6 +6,9 @@ ghost use lib.Dec.{ltb};
 ghost use Rattle.integers.specs.Base.{tabulate};
 ghost use Rattle.digits.specs.Digits.{digitCode, pairsOf, image, glyph as glyphOf, sampleLine};
 
+// A line of samples: four digits each, and the newline.
+pub const SAMPLE_LINE_BYTES: usize = 4 * tables::FRAME_SIZE_SAMPLES + 1;
+
 // A text read as digit pairs: whether it is that, and its bytes, `count` of them.
 pub struct Pairs {
     pub are_pairs: bool,

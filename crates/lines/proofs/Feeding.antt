@@ -61,7 +61,7 @@ piece-later b xs h = rw h
 
 record Ends (r : Stream) (xs : List ℕ) : Type 0 where
   carried : streamAfter r (toNewline xs) ≡ nextLine (longer r xs)
-  told : answersFrom r (toNewline xs) ≡ endText (longer r xs)
+  answers : answersFrom r (toNewline xs) ≡ endText (longer r xs)
   used : length (toNewline xs) ≡ newlineAt xs + 1
 
 ends-here : (r : Stream) (b : ℕ) (xs : List ℕ) → eqb b 10 ≡ true → Ends r (b ∷ xs)
@@ -71,7 +71,7 @@ ends-here r b xs h =
     let p : r ≡ longer r (b ∷ xs) = ap (λ (k : ℕ). withLine r (pushedAll (r .line) (take k (b ∷ xs)))) (sym (here b xs h)) in
     record {
       carried = ap (streamAfter r) n ∙ byte-ends r b h ∙ ap nextLine p;
-      told = ap (answersFrom r) n ∙ rw h (append-nil (endText r)) ∙ ap endText p;
+      answers = ap (answersFrom r) n ∙ rw h (append-nil (endText r)) ∙ ap endText p;
       used = ap length n ∙ ap (λ (k : ℕ). k + 1) (sym (here b xs h));
     }
 
@@ -87,7 +87,7 @@ ends-later r b xs h e =
     let p = byte-pushed r b h in
     record {
       carried = ap (streamAfter r) n ∙ ap (λ (q : Stream). streamAfter q (toNewline xs)) p ∙ e .carried ∙ ap nextLine (longer-later r b xs h);
-      told = ap (answersFrom r) n ∙ rw h (ap (λ (q : Stream). answersFrom q (toNewline xs)) p) ∙ e .told ∙ ap endText (longer-later r b xs h);
+      answers = ap (answersFrom r) n ∙ rw h (ap (λ (q : Stream). answersFrom q (toNewline xs)) p) ∙ e .answers ∙ ap endText (longer-later r b xs h);
       used = ap length n ∙ ap suc (e .used) ∙ omega (arith, later b xs h);
     }
 
@@ -95,12 +95,12 @@ ends-later r b xs h e =
 
 record Goes (r : Stream) (xs : List ℕ) : Type 0 where
   carried : streamAfter r (toNewline xs) ≡ longer r xs
-  told : answersFrom r (toNewline xs) ≡ []
+  answers : answersFrom r (toNewline xs) ≡ []
   used : length (toNewline xs) ≡ newlineAt xs
 
 goes-none : (r : Stream) → Goes r []
 unfolding streamAfter answersFrom toNewline newlineAt pushedAll
-goes-none r = record { carried = refl; told = refl; used = refl }
+goes-none r = record { carried = refl; answers = refl; used = refl }
 
 goes-on : (r : Stream) (b : ℕ) (xs : List ℕ) → eqb b 10 ≡ false → Goes (withLine r (pushed (r .line) b)) xs → Goes r (b ∷ xs)
 unfolding streamAfter answersFrom
@@ -109,7 +109,7 @@ goes-on r b xs h e =
     let p = byte-pushed r b h in
     record {
       carried = ap (streamAfter r) n ∙ ap (λ (q : Stream). streamAfter q (toNewline xs)) p ∙ e .carried ∙ longer-later r b xs h;
-      told = ap (answersFrom r) n ∙ rw h (ap (λ (q : Stream). answersFrom q (toNewline xs)) p) ∙ e .told;
+      answers = ap (answersFrom r) n ∙ rw h (ap (λ (q : Stream). answersFrom q (toNewline xs)) p) ∙ e .answers;
       used = ap length n ∙ ap suc (e .used) ∙ sym (later b xs h);
     }
 
@@ -138,11 +138,11 @@ pub progress-ended : (r : Stream) (xs : List ℕ) (a : Reply) → newlineAt xs <
 unfolding progressOf nextLine endText replyOf
 progress-ended r xs a h e =
     let w = ends r xs h in
-    ap (λ (b : Reply). progressBy (r .tallies) b (newlineAt xs + 1)) e ∙ (λ i. record { stream = sym (w .carried) i; text = textOf (sym (w .told) i); used = sym (w .used) i })
+    ap (λ (b : Reply). progressBy (r .tallies) b (newlineAt xs + 1)) e ∙ (λ i. record { stream = sym (w .carried) i; text = textOf (sym (w .answers) i); used = sym (w .used) i })
 
 pub progress-going : (r : Stream) (xs : List ℕ) (m : Stream) (t : Text) → length xs ≤ newlineAt xs → m ≡ longer r xs → t ≡ textOf []
     → record { stream = m; text = t; used = newlineAt xs } ≡ progressOf r xs
 unfolding progressOf
 progress-going r xs m t h e g =
     let w = goes r xs h in
-    λ i. record { stream = (e ∙ sym (w .carried)) i; text = (g ∙ ap textOf (sym (w .told))) i; used = sym (w .used) i }
+    λ i. record { stream = (e ∙ sym (w .carried)) i; text = (g ∙ ap textOf (sym (w .answers))) i; used = sym (w .used) i }

@@ -1,5 +1,5 @@
 -- A line as it is kept stands for the whole line: up to 1,098 of its characters, and whether there were more.
-use mathlib.Core.Path.{_≡_, refl, sym, ap, subst, _∙_}
+use mathlib.Core.Path.{_≡_, sym, ap, subst, _∙_}
 use mathlib.Core.Bool.{Bool, true, false, not, _&&_}
 use mathlib.Core.List.{List, [], _∷_, _++_, append-nil, append-assoc}
 use mathlib.Core.Logic.{⊎-elim}
@@ -7,17 +7,17 @@ use Prim.Native.Nat.{ℕ, _+_, _≤_, _<_}
 use native.Mathlib.Numerals.{add-one}
 use native.Mathlib.Omega.{arith}
 use lib.Dec.{ltb}
-use lib.ListN.{length, take, set, length-replicate, length-append, length-take, length-set}
+use lib.ListN.{length, take, set, length-append, length-take, length-set}
 use lib.Seq.{take-all, take-append-le, take-suc-set}
 use borrow.Author.Tests.{lt-ltb, le-ltb, le-leb, lt-leb}
 use Rattle.integers.specs.Natural.{le-or-lt}
 use Rattle.digits.specs.Digits.{arePairs, bytesOf}
 use Rattle.state.specs.declared.State.{State}
 use Rattle.lines.specs.Replies.{isRecordLine}
-use Rattle.lines.specs.Stream.{pushed, pushedAll, blank, characters, isRecord, isBegun}
+use Rattle.lines.specs.Stream.{pushed, pushedAll, characters, isRecord}
 use Rattle.lines.specs.Parts.{replyOf, lineReply, textReply}
 use Rattle.lines.specs.declared.Line.{Line}
-use Rattle.lines.proofs.Texts.{no-reply-of, not-when-over, begun-some-of, begun-by-over}
+use Rattle.lines.proofs.Texts.{no-reply-of, not-when-over}
 use Rattle.lines.proofs.Newlines.{push-kept, push-over}
 
 pub record Kept (k : Line) (line : List ℕ) : Type 0 where
@@ -29,9 +29,6 @@ pub record Kept (k : Line) (line : List ℕ) : Type 0 where
 
 pub kept-none : (k : Line) → length (k .text) ≡ 1098 → k .len ≡ 0 → k .over ≡ false → Kept k []
 kept-none k e n o = record { room = e; few = omega arith; count = n; over = o; chars = ap (λ (m : ℕ). take m (k .text)) n }
-
-pub kept-blank : Kept blank []
-kept-blank = kept-none blank (length-replicate {A = ℕ} 1098 0) refl refl
 
 snoc-length : (line : List ℕ) (b : ℕ) → length (line ++ (b ∷ [])) ≡ length line + 1
 snoc-length line b = length-append line (b ∷ [])
@@ -81,13 +78,6 @@ pub kept-all : (k : Line) (line xs : List ℕ) → Kept k line → Kept (pushedA
 unfolding pushedAll
 kept-all k line [] h = subst (Kept k) (sym (append-nil line)) h
 kept-all k line (b ∷ xs) h = subst (Kept (pushedAll (pushed k b) xs)) (append-assoc line (b ∷ []) xs) (kept-all (pushed k b) (line ++ (b ∷ [])) xs (kept-pushed k line b h))
-
-pub kept-begun : (k : Line) (line : List ℕ) → Kept k line → isBegun k ≡ ltb 0 (length line)
-kept-begun k line h =
-    let n = length-take 1098 line in
-    ⊎-elim (λ (l : length line ≤ 0). sym (begun-by-over (k .len) (k .over) (omega (arith, h .count, n))) ∙ h .over ∙ le-ltb 1098 (length line) (omega arith) ∙ sym (le-ltb 0 (length line) l))
-    (λ (l : 0 < length line). begun-some-of (k .len) (k .over) (omega (arith, h .count, n)) ∙ sym (lt-ltb 0 (length line) l))
-    (le-or-lt (length line) 0)
 
 -- the answer to what is kept is that to the line
 pub kept-reply : (k : Line) (line : List ℕ) (s : State) → Kept k line → lineReply k s ≡ textReply line s

@@ -3,5 +3,3 @@ pub mod Texts
 pub mod Feeding
 pub mod Cuts
 pub mod Kept
-pub mod Tallied
-pub mod Whole

@@ -14,6 +14,7 @@ use Rattle.integers.specs.Natural.{le-or-lt}
 use Rattle.integers.specs.Truth.{both, neither}
 use Rattle.integers.specs.Base.{tabulate}
 use Rattle.integers.specs.Fill.{tabulate-length}
+use Rattle.tables.specs.Constants.{numbersCounted}
 use Rattle.digits.specs.Digits.{digitAt, sampleLine, pairValue, bytesOf, arePairs, pairsOf}
 use Rattle.decoder.specs.Decoder.{answerOf, firstNumber, samplesOf}
 use Rattle.decoder.specs.declared.Answer.{Answer}
@@ -118,6 +119,6 @@ not-begun l h = let t = neither (ltb 0 (l .len)) (l .over) h in (let n : l .len 
 
 -- ---- before its start
 
-pub fresh-is : (s : State) (l : Line) (ts : List ℕ) → s ≡ freshState true → l ≡ blank → ts ≡ replicate 12 0 → record { state = s; line = l; tallies = ts } ≡ freshStream
+pub fresh-is : (s : State) (l : Line) (ts : List ℕ) → s ≡ freshState true → l ≡ blank → ts ≡ replicate numbersCounted 0 → record { state = s; line = l; tallies = ts } ≡ freshStream
 unfolding freshStream
 fresh-is s l ts e h k = λ i. record { state = e i; line = h i; tallies = k i }

@@ -1,5 +1,3 @@
 pub mod Replies
-pub mod Output
 pub mod Stream
 pub mod Parts
-pub mod Whole

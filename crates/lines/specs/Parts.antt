@@ -33,7 +33,7 @@ lineReply l s = replyOf (isRecord l) (bytesOf (characters l)) s
 abbrev pub textReply : List ℕ → State → Reply
 textReply text s = replyOf (isRecordLine text) (bytesOf text) s
 
--- what is carried and said after an answer, from the tallies before it, where n bytes were used
+-- the progress that an answer makes, from the tallies before it, where n bytes were taken
 abbrev pub progressBy : List ℕ → Reply → ℕ → Progress
 progressBy tallies a n = record {
   stream = record { state = a .state; line = blank; tallies = counted tallies (a .number) };

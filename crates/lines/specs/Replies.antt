@@ -36,6 +36,7 @@ module _ (isRecord : Bool) (bytes : List ℕ) (s : State) where
 abbrev pub isRecordLine : List ℕ → Bool
 isRecordLine line = leb (length line) lineMax && arePairs line
 
+-- The answer to a whole line, from state s.
 module _ (s : State) (line : List ℕ) where
   abbrev pub lineNumber : ℕ
   lineNumber = numberFor (isRecordLine line) (bytesOf line) s

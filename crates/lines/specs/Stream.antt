@@ -4,8 +4,8 @@ use mathlib.Core.List.{List, [], _∷_, _++_}
 use Prim.Native.Nat.{ℕ, _+_, _-_}
 use lib.Dec.{eqb, ltb}
 use lib.ListN.{length, take, set, replicate}
-use Rattle.tables.specs.Constants.{lineMax}
-use Rattle.digits.specs.Digits.{arePairs, bytesOf}
+use Rattle.tables.specs.Constants.{lineMax, numbersCounted}
+use Rattle.digits.specs.Digits.{arePairs, bytesOf, sampleLineBytes}
 use Rattle.counts.specs.Counts.{counted}
 use Rattle.state.specs.State.{freshState}
 use Rattle.lines.specs.Replies.{numberFor, stateFor, textFor}
@@ -23,6 +23,7 @@ pushed l b =
     (record { text = set (l .text) (l .len) b; len = l .len + 1; over = l .over })
     (record { text = l .text; len = l .len; over = true })
 
+-- the characters xs more
 unfoldable pub pushedAll : Line → List ℕ → Line
 pushedAll l [] = l
 pushedAll l (b ∷ xs) = pushedAll (pushed l b) xs
@@ -35,6 +36,7 @@ blank = record { text = replicate lineMax 0; len = 0; over = false }
 abbrev pub characters : Line → List ℕ
 characters l = take (l .len) (l .text)
 
+-- it is a record: digit pairs, and not too long
 abbrev pub isRecord : Line → Bool
 isRecord l = not (l .over) && arePairs (characters l)
 
@@ -49,10 +51,10 @@ unfoldable pub freshStream : Stream
 freshStream = record {
   state = freshState true;
   line = blank;
-  tallies = replicate 12 0;
+  tallies = replicate numbersCounted 0;
 }
 
--- The end of a line: what is said of it, and what is carried on.
+-- The end of a line: its answer, and what is carried on.
 module _ (r : Stream) where
   abbrev pub endNumber : ℕ
   endNumber = numberFor (isRecord (r .line)) (bytesOf (characters (r .line))) (r .state)
@@ -71,7 +73,7 @@ module _ (r : Stream) where
 unfoldable pub withByte : Stream → ℕ → Stream
 withByte r b = cond (eqb b 10) (nextLine r) (record { state = r .state; line = pushed (r .line) b; tallies = r .tallies })
 
--- the bytes xs: what is carried after them, and what is said to them
+-- the bytes xs: what is carried after them, and the answers to the lines that end in them
 unfoldable pub streamAfter : Stream → List ℕ → Stream
 streamAfter r [] = r
 streamAfter r (b ∷ xs) = streamAfter (withByte r b) xs
@@ -82,9 +84,9 @@ answersFrom r (b ∷ xs) = cond (eqb b 10) (endText r) [] ++ answersFrom (withBy
 
 -- ---- what the functions answer
 
--- text at the start of 961 bytes, room for the longest answer, which are zeros after it
+-- text at the start of its bytes, which have room for the longest answer, a line of samples, and are zeros after it
 abbrev pub textOf : List ℕ → Text
-textOf l = record { bytes = l ++ replicate (961 - length l) 0; len = length l }
+textOf l = record { bytes = l ++ replicate (sampleLineBytes - length l) 0; len = length l }
 
 -- a piece of the input to its first newline, with it
 unfoldable pub toNewline : List ℕ → List ℕ
@@ -104,3 +106,7 @@ progressOf r xs =
 -- `finish`: the line that no newline ended, if there is anything of it
 unfoldable pub finished : Stream → Progress
 finished r = cond (isBegun (r .line)) (endedOf r) (record { stream = r; text = textOf []; used = 0 })
+
+-- what the N lines of an input are made of: the tallies after its last line, which a newline need not end
+abbrev pub printedTallies : List ℕ → List ℕ
+printedTallies input = finished (streamAfter freshStream input) .stream .tallies

@@ -10,7 +10,7 @@ ghost use Rattle.lines.specs.Stream.{pushedAll, blank, freshStream, text
 ghost use Rattle.lines.specs.Parts.{answerLine, replyOf, lineReply, textReply, progressBy, newlineAt};
 use state::State;
 
-// A line that has not ended: `len` characters stand in `text`. `over` says that there were more.
+// A line that has not ended: `len` characters stand in `text`, and `over` is set where there were more.
 pub struct Line {
     pub text: [u8; 1098],
     pub len: usize,
@@ -83,7 +83,7 @@ fn sample_text(samples: [i16; 240]) -> Text
     let bytes = digits::sample_line(samples);
     Text {
         bytes: bytes,
-        len: 961,
+        len: digits::SAMPLE_LINE_BYTES,
     }
 }
 
@@ -150,7 +150,7 @@ fn decoded(given: State, bytes: &[u8]) -> Reply
     }
 }
 
-// That to the first `count` bytes as a record.
+// The answer to the first `count` bytes as a record.
 fn record_reply(given: State, bytes: &[u8], count: usize) -> Reply
     ensures { λ r. ⌜ r ≡ replyOf true (take count (now (bytes .entry))) given ⌝ }
 {
@@ -160,7 +160,7 @@ fn record_reply(given: State, bytes: &[u8], count: usize) -> Reply
     decoded(given, bytes)
 }
 
-// That to a line that is no record: number 11, which changes no state.
+// The answer to a line that is no record: number 11, which changes no state.
 fn no_record(given: State) -> Reply
     ensures { λ r. ⌜ r ≡ replyOf false [] given ⌝ }
 {
@@ -172,7 +172,7 @@ fn no_record(given: State) -> Reply
     }
 }
 
-// That to the text of a line.
+// The answer to the text of a line.
 fn text_reply(given: State, text: &[u8]) -> Reply
     ensures { λ r. ⌜ r ≡ textReply (now (text .entry)) given ⌝ }
 {
@@ -184,7 +184,7 @@ fn text_reply(given: State, text: &[u8]) -> Reply
     record_reply(given, &bytes, p.count)
 }
 
-// That to its first `len` characters.
+// The answer to its first `len` characters as a line.
 fn front_reply(given: State, text: &[u8], len: usize) -> Reply
     ensures { λ r. ⌜ r ≡ textReply (take len (now (text .entry))) given ⌝ }
 {
@@ -194,7 +194,7 @@ fn front_reply(given: State, text: &[u8], len: usize) -> Reply
     text_reply(given, text)
 }
 
-// That to a line as it is kept.
+// The answer to a line as it is kept.
 fn line_reply(given: State, line: Line) -> Reply
     ensures { λ r. ⌜ r ≡ lineReply line given ⌝ }
 {
@@ -214,7 +214,7 @@ fn is_begun(len: usize, over: bool) -> bool
     over
 }
 
-// That to a line with the characters `part` more. A line that stands whole in a piece is read there.
+// The answer to a line with the characters `part` more. A line that stands whole in a piece is read there.
 fn part_reply(given: State, line: Line, part: &[u8]) -> Reply
     ensures { λ r. ⌜ r ≡ lineReply (pushedAll line (now (part .entry))) given ⌝ }
 {
@@ -253,7 +253,7 @@ pub fn start() -> Stream
     }
 }
 
-// What a piece of the input adds, to the end of a line: the rest of the piece is for the next call.
+// Takes a piece of the input to the end of one line at most: the rest of the piece is for the next call.
 pub fn feed(given: Stream, input: &[u8]) -> Progress
     ensures { λ r. ⌜ r ≡ progressOf given (now (input .entry)) ⌝ }
 {
@@ -281,11 +281,11 @@ pub fn feed(given: Stream, input: &[u8]) -> Progress
 pub fn finish(given: Stream) -> Progress
     ensures { λ r. ⌜ r ≡ finished given ⌝ }
 {
-    let line = given.line;
-    if is_begun(line.len, line.over) {
+    let last = given.line;
+    if is_begun(last.len, last.over) {
         let state = given.state;
         let tallies = given.tallies;
-        let a = line_reply(state, line);
+        let a = line_reply(state, last);
         return progress_by(tallies, a, 0);
     }
     Progress {

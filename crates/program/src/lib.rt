@@ -5,7 +5,7 @@ ghost use mathlib.Core.Path.{_≡_};
 ghost use mathlib.Core.Bool.{true};
 ghost use mathlib.Core.List.{List};
 ghost use Prim.Native.Nat.{ℕ};
-ghost use Rattle.lines.specs.Stream.{freshStream, streamAfter};
+ghost use Rattle.lines.specs.Stream.{streamAfter, finished, printedTallies};
 use libc::STDIN_FILENO;
 use libc::STDOUT_FILENO;
 use lines::Stream;
@@ -90,30 +90,33 @@ fn read_all(given: Stream) -> Turn
     now
 }
 
-// The line that no newline ended, then the counts.
-fn close(given: Stream) {
+// The line that no newline ended, then the closing lines. It answers the tallies that they are made of.
+fn close(given: Stream) -> [u64; 12]
+    ensures { λ r. ⌜ r ≡ finished given .stream .tallies ⌝ }
+{
     let f = lines::finish(given);
     let text = f.text;
     let bytes = text.bytes;
+    let stream = f.stream;
+    let tallies = stream.tallies;
     if write(&bytes, text.len) {
-        let stream = f.stream;
-        let tallies = stream.tallies;
         let c = counts::closing_lines(tallies);
         let closing = c.bytes;
         write(&closing, c.len);
     }
+    tallies
 }
 
-// Document 01's program `frames`. It answers the tallies of the lines that ended: those that the bytes which it read leave.
-// Which bytes these are is in no contract of `read`, so that the promise says that there are such.
+// Document 01's program `frames`. It answers the tallies of the closing lines, or those of no input where a write failed before
+// its end. Which bytes were read is in no contract of `read`, so that the promise says that there are such.
 pub fn frames() -> [u64; 12]
-    ensures { λ r. ⌜ ((input : List ℕ) × (r ≡ streamAfter freshStream input .tallies)) ⌝ }
+    ensures { λ r. ⌜ ((input : List ℕ) × (r ≡ printedTallies input)) ⌝ }
 {
     let start = lines::start();
     let t = read_all(start);
-    let last = t.stream;
-    if t.is_written {
-        close(last);
+    if !t.is_written {
+        return counts::no_tallies();
     }
-    last.tallies
+    let last = t.stream;
+    close(last)
 }

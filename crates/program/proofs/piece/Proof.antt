@@ -14,10 +14,10 @@ use Rattle.program.proofs.piece.Statement.{statement}
 use Rattle.program.proofs.piece.Tie as tie
 
 abbrev Inv-loop : tie.InvT-loop
-Inv-loop input replay₀ at₀ stream at = (at ≤ length input) × (streamAfter replay₀ input ≡ streamAfter stream (drop at input)) × Reached replay₀ stream
+Inv-loop input stream₀ at₀ stream at = (at ≤ length input) × (streamAfter stream₀ input ≡ streamAfter stream (drop at input)) × Reached stream₀ stream
 
 abbrev μ-loop : tie.MeasureT-loop
-μ-loop input replay₀ at₀ stream at = length input - at
+μ-loop input stream₀ at₀ stream at = length input - at
 
 loop-holds : tie.Need-loop-holds Inv-loop μ-loop
 loop-holds c = (omega arith, refl, reached-start (c .before .args .given))

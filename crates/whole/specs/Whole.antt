@@ -1,12 +1,13 @@
--- The program's calls, piece by piece, give the whole output (document 01, "Program `frames`"), however the input is cut into pieces. proofs/Whole.antt proves it.
+-- The program's calls, piece by piece, give the whole output (document 01, "Program `frames`"), however the input is cut into pieces, and the tallies that it answers are the counts. proofs/Whole.antt proves both.
 use mathlib.Core.List.{List, [], _∷_, _++_}
-use Prim.Native.Nat.{ℕ, zero, suc}
+use mathlib.Core.Path.{_≡_}
+use Prim.Native.Nat.{ℕ, zero, suc, min}
 use lib.ListN.{length, take, drop, getD}
-use Rattle.counts.specs.Counts.{Closes}
-use Rattle.lines.specs.Output.{IsOutput}
-use Rattle.lines.specs.Stream.{freshStream, progressOf, finished}
+use Rattle.counts.specs.Counts.{most, Closes}
+use Rattle.whole.specs.Output.{countOf, IsOutput}
+use Rattle.lines.specs.Stream.{freshStream, progressOf, finished, printedTallies}
 use Rattle.lines.specs.declared.Stream.{Stream}
 use Rattle.lines.specs.declared.Progress.{Progress}
 
 -- what a call leaves to be written
 abbrev pub written : Progress → List ℕ
@@ -44,3 +45,7 @@ abbrev pub OutputOfPieces : Type 0
 OutputOfPieces =
     (ps : List (List ℕ)) (closing : List ℕ) → Closes (λ n. getD (lastProgress ps .stream .tallies) n 0) closing
     → IsOutput (joined ps) (piecesText freshStream ps ++ (written (lastProgress ps) ++ closing))
+
+-- the tallies that the program answers are the counts of that definition, each in 64 bits
+abbrev pub PrintedCounts : Type 0
+PrintedCounts = (input : List ℕ) (n : ℕ) → getD (printedTallies input) n 0 ≡ min (countOf input n) most

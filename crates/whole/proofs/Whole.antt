@@ -1,33 +1,46 @@
--- The program's calls give the whole output: the theorem of specs/Whole.antt.
+-- The program's calls give the whole output, and its tallies are the counts: the theorems of specs/Whole.antt.
 use mathlib.Core.Path.{_≡_, refl, sym, ap, subst, _∙_}
 use mathlib.Core.Bool.{true, false}
 use mathlib.Core.List.{List, [], _∷_, _++_, append-assoc, append-nil}
 use mathlib.Core.Logic.{⊎-elim}
 use Prim.Native.Nat.{ℕ, _+_, _≤_, _<_, min}
 use native.Mathlib.Omega.{arith}
-use lib.Dec.{eqb}
-use lib.ListN.{length, take, getD, replicate, length-replicate, getD-replicate, List·getD-eq-default}
+use lib.Dec.{eqb, ltb}
+use lib.ListN.{length, take, getD, replicate, length-replicate, length-take, getD-replicate, List·getD-eq-default}
 use borrow.Author.Tests.{lt-ltb, le-ltb}
 use Rattle.integers.specs.Natural.{le-or-lt}
+use Rattle.tables.specs.Constants.{lineMax, numbersCounted}
 use Rattle.digits.specs.Digits.{bytesOf}
 use Rattle.counts.specs.Counts.{most, counted, Closes}
 use Rattle.state.specs.State.{freshState}
 use Rattle.state.specs.declared.State.{State}
 use Rattle.lines.specs.Replies.{isRecordLine, lineNumber, lineState, lineText}
-use Rattle.lines.specs.Output.{linesFrom, linesOf, textFrom, numbersFrom, answersTo, countOf}
+use Rattle.whole.specs.Output.{linesFrom, linesOf, textFrom, numbersFrom, answersTo, countOf}
 use Rattle.lines.specs.Stream.{pushed, blank, characters, isRecord, isBegun, textOf, freshStream, endNumber, endText, nextLine, streamAfter, answersFrom, endedOf, finished}
 use Rattle.lines.specs.Parts.{replyOf}
-use Rattle.lines.specs.Whole.{written, piecesText, joined, lastProgress, OutputOfPieces}
+use Rattle.whole.specs.Whole.{written, piecesText, joined, lastProgress, OutputOfPieces, PrintedCounts}
 use Rattle.lines.specs.declared.Line.{Line}
 use Rattle.lines.specs.declared.Stream.{Stream}
-use Rattle.lines.specs.declared.Reply.{Reply}
 use Rattle.lines.specs.declared.Progress.{Progress}
 use Rattle.digits.proofs.Characters.{either}
 use Rattle.lines.proofs.Feeding.{withLine, byte-ends, byte-pushed}
-use Rattle.lines.proofs.Cuts.{no-answer, nothing-carried, text-back, pieces-text, pieces-stream}
-use Rattle.lines.proofs.Texts.{finish-begun, finish-none}
-use Rattle.lines.proofs.Kept.{Kept, kept-blank, kept-pushed, kept-begun, kept-reply}
-use Rattle.lines.proofs.Tallied.{countedAll, tallied}
+use Rattle.lines.proofs.Cuts.{nothing-carried}
+use Rattle.lines.proofs.Texts.{finish-begun, finish-none, begun-some-of, begun-by-over}
+use Rattle.lines.proofs.Kept.{Kept, kept-none, kept-pushed, kept-reply}
+use Rattle.whole.proofs.Pieces.{no-answer, text-back, pieces-text, pieces-stream}
+use Rattle.whole.proofs.Tallied.{countedAll, tallied}
+
+-- ---- a line that is kept, at its start and at the end of the input
+
+kept-blank : Kept blank []
+kept-blank = kept-none blank (length-replicate {A = ℕ} lineMax 0) refl refl
+
+kept-begun : (k : Line) (line : List ℕ) → Kept k line → isBegun k ≡ ltb 0 (length line)
+kept-begun k line h =
+    let n = length-take lineMax line in
+    ⊎-elim (λ (l : length line ≤ 0). sym (begun-by-over (k .len) (k .over) (omega (arith, h .count, n))) ∙ h .over ∙ le-ltb lineMax (length line) (omega arith) ∙ sym (le-ltb 0 (length line) l))
+    (λ (l : 0 < length line). begun-some-of (k .len) (k .over) (omega (arith, h .count, n)) ∙ sym (lt-ltb 0 (length line) l))
+    (le-or-lt (length line) 0)
 
 -- ---- a line's end, where r keeps the characters of the line
 
@@ -37,15 +50,15 @@ module _ (r : Stream) (line : List ℕ) (k : Kept (r .line) line) where
 
   pub number-same : endNumber r ≡ lineNumber (r .state) line
   unfolding replyOf
-  number-same = ap (λ (a : Reply). a .number) same
+  number-same = λ i. same i .number
 
   pub state-same : nextLine r .state ≡ lineState (r .state) line
   unfolding replyOf nextLine
-  state-same = ap (λ (a : Reply). a .state) same
+  state-same = λ i. same i .state
 
   pub text-same : endText r ≡ lineText (r .state) line
   unfolding replyOf endText
-  text-same = sym (text-back (endText r)) ∙ ap (λ (a : Reply). take (a .text .len) (a .text .bytes)) same ∙ text-back (lineText (r .state) line)
+  text-same = sym (text-back (endText r)) ∙ (λ i. take (same i .text .len) (same i .text .bytes)) ∙ text-back (lineText (r .state) line)
 
 -- ---- the definitions, one line or one byte on
 
@@ -187,7 +200,7 @@ kept-fresh : Kept (freshStream .line) []
 unfolding freshStream
 kept-fresh = kept-blank
 
-fresh-tallies : freshStream .tallies ≡ replicate 12 0
+fresh-tallies : freshStream .tallies ≡ replicate numbersCounted 0
 unfolding freshStream
 fresh-tallies = refl
 
@@ -196,20 +209,22 @@ unfolding freshStream
 fresh-state = refl
 
 -- no tally before the first line
-no-tally : (n : ℕ) → getD (replicate {A = ℕ} 12 0) n 0 ≡ 0
-no-tally n = ⊎-elim (λ (h : 12 ≤ n). List·getD-eq-default (replicate {A = ℕ} 12 0) 0 {n = n} (omega (arith, length-replicate {A = ℕ} 12 0))) (λ (h : n < 12). getD-replicate 12 n 0 0 h) (le-or-lt 12 n)
+no-tally : (n : ℕ) → getD (replicate {A = ℕ} numbersCounted 0) n 0 ≡ 0
+no-tally n =
+    ⊎-elim (λ (h : numbersCounted ≤ n). List·getD-eq-default (replicate {A = ℕ} numbersCounted 0) 0 {n = n} (omega (arith, length-replicate {A = ℕ} numbersCounted 0)))
+    (λ (h : n < numbersCounted). getD-replicate numbersCounted n 0 0 h) (le-or-lt numbersCounted n)
 
 whole : (input : List ℕ) → Comes freshStream [] input
 whole input = comes input freshStream [] kept-fresh
 
-counts-are : (input : List ℕ) (n : ℕ) → getD (finished (streamAfter freshStream input) .stream .tallies) n 0 ≡ min (countOf input n) most
-counts-are input n =
+-- ---- the theorems
+
+pub printed-counts : PrintedCounts
+printed-counts input n =
     let z = no-tally n in
     ap (λ (ts : List ℕ). getD ts n 0) (whole input .tallies ∙ (λ i. countedOf (fresh-tallies i) (fresh-state i) (linesOf input)))
-    ∙ tallied (linesOf input) (freshState true) (replicate 12 0) n (length-replicate {A = ℕ} 12 0) (omega (arith, z))
+    ∙ tallied (linesOf input) (freshState true) (replicate numbersCounted 0) n (length-replicate {A = ℕ} numbersCounted 0) (omega (arith, z))
     ∙ omega (arith, z)
-
--- ---- the theorem
 
 pub output-of-pieces : OutputOfPieces
 output-of-pieces ps closing c =
@@ -218,7 +233,7 @@ output-of-pieces ps closing c =
     let last : lastProgress ps ≡ finished (streamAfter freshStream input) = ap finished p in
     let answers-all : piecesText freshStream ps ++ written (lastProgress ps) ≡ answersTo input =
     (λ i. pieces-text freshStream ps i ++ written (last i)) ∙ whole input .text ∙ ap (λ (q : State). textFrom q (linesOf input)) fresh-state in
-    let counts : (n : ℕ) → getD (lastProgress ps .stream .tallies) n 0 ≡ min (countOf input n) most = λ n. ap (λ (d : Progress). getD (d .stream .tallies) n 0) last ∙ counts-are input n in (
+    let counts : (n : ℕ) → getD (lastProgress ps .stream .tallies) n 0 ≡ min (countOf input n) most = λ n. ap (λ (d : Progress). getD (d .stream .tallies) n 0) last ∙ printed-counts input n in (
       closing,
       sym (append-assoc (piecesText freshStream ps) (written (lastProgress ps)) closing) ∙ ap (λ (l : List ℕ). l ++ closing) answers-all,
       subst (λ (f : ℕ → ℕ). Closes f closing) (λ i n. counts n i) c,

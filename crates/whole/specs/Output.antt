@@ -17,11 +17,13 @@ unfoldable pub linesFrom : List ℕ → List ℕ → List (List ℕ)
 linesFrom line [] = cond (ltb 0 (length line)) (line ∷ []) []
 linesFrom line (b ∷ xs) = cond (eqb b 10) (line ∷ linesFrom [] xs) (linesFrom (line ++ (b ∷ [])) xs)
 
+-- those of a whole input
 abbrev pub linesOf : List ℕ → List (List ℕ)
 linesOf input = linesFrom [] input
 
 -- ---- their answers, one after the other
 
+-- their text
 unfoldable pub textFrom : State → List (List ℕ) → List ℕ
 textFrom s [] = []
 textFrom s (l ∷ ls) = lineText s l ++ textFrom (lineState s l) ls
@@ -33,10 +35,11 @@ numbersFrom s (l ∷ ls) = lineNumber s l ∷ numbersFrom (lineState s l) ls
 
 -- ---- the whole, from one fresh state with postfilter
 
+-- the text of the answers
 abbrev pub answersTo : List ℕ → List ℕ
 answersTo input = textFrom (freshState true) (linesOf input)
 
--- how many R lines of number n that has; of number 0, lines of samples
+-- how many of them are R lines of number n, and for number 0 how many are lines of samples
 abbrev pub countOf : List ℕ → ℕ → ℕ
 countOf input n = howMany n (numbersFrom (freshState true) (linesOf input))
 

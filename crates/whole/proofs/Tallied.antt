@@ -9,6 +9,7 @@ use lib.Dec.{eqb}
 use lib.ListN.{length, getD, length-set}
 use lib.Seq.{getD-set-same, getD-set-other}
 use borrow.Author.Tests.{eqb-true, eqb-false}
+use Rattle.tables.specs.Constants.{numbersCounted}
 use Rattle.counts.specs.Counts.{howMany, most, counted}
 use Rattle.refusals.specs.Refusals.{numberFound}
 use Rattle.decoder.specs.Decoder.{examined}
@@ -16,8 +17,8 @@ use Rattle.refusals.specs.declared.Found.{Found}
 use Rattle.refusals.specs.declared.Found.the-variants.{Erased, High, Low, Refused}
 use Rattle.numbers.specs.declared.Refusal.the-variants.{SampleLength, StateBounds, NoByte, Kind, Length, LagCode, StepCode, GainIndex, Flags, Signs}
 use Rattle.state.specs.declared.State.{State}
 use Rattle.lines.specs.Replies.{lentSamples, numberFor, lineNumber, lineState, isRecordLine}
-use Rattle.lines.specs.Output.{numbersFrom}
+use Rattle.whole.specs.Output.{numbersFrom}
 use Rattle.digits.specs.Digits.{bytesOf}
 use Rattle.digits.proofs.Characters.{either}
 
@@ -28,7 +29,7 @@ countedAll ts (n ∷ ns) = countedAll (counted ts n) ns
 
 -- ---- every number has its place
 
-below : (f : Found) → numberFound f < 12
+below : (f : Found) → numberFound f < numbersCounted
 below (Refused SampleLength) = omega arith
 below (Refused StateBounds) = omega arith
 below (Refused NoByte) = omega arith
@@ -43,7 +44,7 @@ below Erased = omega arith
 below High = omega arith
 below Low = omega arith
 
-number-below : (b : Bool) (bytes : List ℕ) (s : State) → numberFor b bytes s < 12
+number-below : (b : Bool) (bytes : List ℕ) (s : State) → numberFor b bytes s < numbersCounted
 unfolding numberFor
 number-below true bytes s = below (examined s bytes lentSamples)
 number-below false bytes s = omega arith
@@ -75,7 +76,7 @@ still-limited t v c b e = ⊎-elim (λ (p : v ≡ min (t + c) most). omega arith
 none : (t : ℕ) → t ≤ most → t ≡ min (t + 0) most
 none t b = omega arith
 
-pub tallied : (ls : List (List ℕ)) (s : State) (ts : List ℕ) (n : ℕ) → length ts ≡ 12 → getD ts n 0 ≤ most
+pub tallied : (ls : List (List ℕ)) (s : State) (ts : List ℕ) (n : ℕ) → length ts ≡ numbersCounted → getD ts n 0 ≤ most
     → getD (countedAll ts (numbersFrom s ls)) n 0 ≡ min (getD ts n 0 + howMany n (numbersFrom s ls)) most
 unfolding countedAll howMany numbersFrom
 tallied [] s ts n h b = none (getD ts n 0) b

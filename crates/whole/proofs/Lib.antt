@@ -1,0 +1,3 @@
+pub mod Pieces
+pub mod Tallied
+pub mod Whole

@@ -1,0 +1,1 @@
+// Laws over the program's whole output, and no code: specs/ has their statements.
