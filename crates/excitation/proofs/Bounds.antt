@@ -5,6 +5,7 @@ use native.Mathlib.Omega.{arith}
 use lib.Dec.{lit≤}
 use lib.IntN.{ℤ, pos}
 use lib.Signed.{_≤ℤ_}
+use Rattle.tables.specs.Constants.{unvoicedGainMax}
 use Rattle.integers.specs.Limit.{limited-bounds}
 use Rattle.tables.specs.Rules.{gain-most}
 use Rattle.excitation.specs.Excitation.{subframePlace, doubledSum, tapSum, unvoicedGain}
@@ -20,5 +21,5 @@ subframe-place-bounds Three = (lit≤ tt, lit≤ tt)
 pub tap-sum-bounds : (taps : List ℤ) → (pos 0 ≤ℤ tapSum taps) × (tapSum taps ≤ℤ pos 32767)
 tap-sum-bounds taps = limited-bounds (pos 0) (pos 32767) (doubledSum taps) (record { le = tt })
 
-pub unvoiced-gain-most : (i j : ℕ) → unvoicedGain i j ≤ 13246
+pub unvoiced-gain-most : (i j : ℕ) → unvoicedGain i j ≤ unvoicedGainMax
 unvoiced-gain-most i j = omega (arith, gain-most i, gain-most j)

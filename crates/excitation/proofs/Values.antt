@@ -2,12 +2,13 @@
 use mathlib.Core.Path.{_≡_, refl}
 use mathlib.Core.List.{[], _∷_}
 use lib.IntN.{pos, negsuc}
+use Rattle.tables.specs.Constants.{unvoicedGainMax}
 use Rattle.integers.specs.Base.{sumTo}
 use Rattle.tables.specs.Tables.{gains}
 use Rattle.excitation.specs.Excitation.{tapSum, unvoicedGain}
 
 -- the largest gain, twice
-pub gain-of-23 : unvoicedGain 23 23 ≡ 13246
+pub gain-of-23 : unvoicedGain 23 23 ≡ unvoicedGainMax
 unfolding gains
 gain-of-23 = refl
 

@@ -10,6 +10,7 @@ use borrow.Author.Tests.{lt-ltb, le-ltb}
 use lib.IntN.{ℤ, pos, _+ℤ_}
 use lib.ListN.{length, getD, drop, replicate, length-drop}
 use lib.Seq.{getD-drop, drop-drop}
+use Rattle.tables.specs.Constants.{unvoicedGainMax}
 use Rattle.integers.specs.Base.{sumTo, entry, tabulate, Within, AllWithin}
 use Rattle.integers.specs.Natural.{cond-elim}
 use Rattle.integers.specs.Bound.{within-lit, all-within-tabulate}
@@ -80,9 +81,9 @@ none-left i (p ∷ ps) h a = absurd (let m : i ≤ p = a .0 in let n : p < 30 = 
 abbrev pub part : Description → ℕ → ℕ → ℤ
 part d k j = sumTo (term d j) k
 
-term-within : (d : Description) (j i : ℕ) → Within 13246 (term d j i)
+term-within : (d : Description) (j i : ℕ) → Within unvoicedGainMax (term d j i)
 term-within d j i =
-    cond-elim (reaches d (pulsePlace d i) j) (pulse d i) (pos 0) (Within 13246) (λ t. record { within = rw (abs-pulse d i) (size-most d .within) }) (λ t. within-lit tt)
+    cond-elim (reaches d (pulsePlace d i) j) (pulse d i) (pos 0) (Within unvoicedGainMax) (λ t. record { within = rw (abs-pulse d i) (size-most d .within) }) (λ t. within-lit tt)
 
 -- the slots from the k-th on
 abbrev pub others : Description → ℕ → List ℕ
@@ -133,9 +134,9 @@ module _ {d : Description} (h : d .code < limit (d .count)) where
       pub placing-left : (1 ≤ left) × (left ≤ 6)
       placing-left = (omega (arith, more, r .count), omega (arith, r .count, pulses-few (d .count)))
 
-      pub placing-within : AllWithin 66230 v
+      pub placing-within : AllWithin (5 * unvoicedGainMax) v
       placing-within =
-          rw (r .is) (all-within-tabulate 60 (λ j. within-sum-to (term d j) 13246 5 (term-within d j) k (omega (arith, more, pulses-few (d .count)))))
+          rw (r .is) (all-within-tabulate 60 (λ j. within-sum-to (term d j) unvoicedGainMax 5 (term-within d j) k (omega (arith, more, pulses-few (d .count)))))
 
       -- added at its place, by the step and with the size and sign that the code has
       module _ {step grid : ℕ} {amp : ℤ} (s : step ≡ cond (d .train) (period d) 60) (g : grid ≡ cond (d .grid) 1 0)

@@ -5,6 +5,7 @@ use Prim.Native.Nat.{ℕ, _-_, _/_, _%_, _^_}
 use native.Mathlib.Omega.{arith}
 use lib.Dec.{eqb}
 use lib.IntN.{ℤ, pos, negℤ, natAbs}
+use Rattle.tables.specs.Constants.{unvoicedGainMax}
 use Rattle.integers.specs.Base.{Within}
 use Rattle.integers.specs.Bound.{abs-neg}
 use Rattle.tables.specs.Rules.{gain-most}
@@ -22,8 +23,8 @@ pub abs-pulse : (d : Description) (k : ℕ) → natAbs (pulse d k) ≡ size d
 unfolding pulse
 abs-pulse d k = abs-signed (pos (size d)) (d .signs) _
 
-pub size-most : (d : Description) → Within 13246 (pos (size d))
+pub size-most : (d : Description) → Within unvoicedGainMax (pos (size d))
 size-most d = record { within = omega (arith, gain-most (d .«gain_index»)) }
 
-pub signed-most : {z : ℤ} (s b : ℕ) → Within 13246 z → Within 13246 (signedBy z s b)
+pub signed-most : {z : ℤ} (s b : ℕ) → Within unvoicedGainMax z → Within unvoicedGainMax (signedBy z s b)
 signed-most {z} s b w = record { within = rw (abs-signed z s b) (w .within) }

@@ -4,6 +4,7 @@ ghost use mathlib.Core.Bool.{cond};
 ghost use Prim.Native.Nat.{_+_, _*_, _^_, _<_, max};
 ghost use lib.IntN.{pos, _+ℤ_};
 ghost use Rattle.integers.specs.Base.{entry, tabulate, Within, AllWithin};
+ghost use Rattle.tables.specs.Constants.{unvoicedGainMax};
 ghost use Rattle.positions.specs.Positions.{limit, slots, bits};
 ghost use Rattle.pulses.specs.Pulses.{doubledGain, signedBy, repeats, vector};
 use positions::Count;
@@ -29,7 +30,7 @@ pub fn doubled_gain(index: u8) -> i32
 
 // A pulse of that size, by its sign bit.
 fn with_sign(size: i32, signs: u8, b: usize) -> i32
-    requires { ⌜ Within 13246 size ⌝ }
+    requires { ⌜ Within unvoicedGainMax size ⌝ }
     requires { ⌜ b < 8 ⌝ }
     ensures { λ r. ⌜ r ≡ signedBy size signs b ⌝ }
 {
@@ -49,8 +50,8 @@ fn pulse_step(train: bool, lag: u32) -> usize
 // v and a pulse at sample p, repeated. The largest doubled gain is 13246, and five pulses at most are there before.
 fn add_pulse(v: [i32; 60], amp: i32, p: usize, step: usize) -> [i32; 60]
     requires { ⌜ (0 < step) × (step < 2 ^ 32) ⌝ }
-    requires { ⌜ AllWithin 66230 v ⌝ }
-    requires { ⌜ Within 13246 amp ⌝ }
+    requires { ⌜ AllWithin (5 * unvoicedGainMax) v ⌝ }
+    requires { ⌜ Within unvoicedGainMax amp ⌝ }
     ensures { λ r. ⌜ r ≡ tabulate (λ j. entry v j +ℤ cond (repeats step p j) amp (pos 0)) 60 ⌝ }
 {
     let mut out = v;

@@ -1,11 +1,12 @@
 use mathlib.Core.Path.{_≡_, sym, _∙_, subst}
 use mathlib.Core.Bool.{cond}
-use Prim.Native.Nat.{_-_}
+use Prim.Native.Nat.{_-_, _*_}
 use native.Mathlib.Omega.{arith}
 use lib.IntN.{ℤ, pos, _+ℤ_}
 use mir.Syntax.{w32}
 use mir.Val.{SFits, toZ}
 use mir.Facts.{toZ-ofZ}
+use Rattle.tables.specs.Constants.{unvoicedGainMax}
 use Rattle.integers.specs.Base.{entry, tabulate, Within}
 use Rattle.integers.specs.Bound.{within-add, fits-within}
 use Rattle.integers.specs.Expression.{is-arg, is-mag, is-add, need-add}
@@ -35,7 +36,7 @@ module _ (c : tie.After-out Inv-loop μ-loop) where
   still = repeating-later (l .loop .inv) (l .loop .j) (omega arith) (c .before .loop-test .taken)
 
   sum-fits : SFits w32 (x +ℤ l .before .args .amp)
-  sum-fits = fits-within (within-add (subst (Within 66230) (sym still) (l .before .pre .1 .0 .at (l .loop .j))) (l .before .pre .1 .1)) tt
+  sum-fits = fits-within (within-add (subst (Within (5 * unvoicedGainMax)) (sym still) (l .before .pre .1 .0 .at (l .loop .j))) (l .before .pre .1 .1)) tt
 
 mul-out : tie.Need-mul-out Inv-loop μ-loop
 mul-out c = omega arith

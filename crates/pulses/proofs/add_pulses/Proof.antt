@@ -7,6 +7,7 @@ use borrow.Author.Needs.{needs}
 use lib.IntN.{ℤ, pos}
 use mir.Syntax.{w32}
 use mir.Val.{toZ, ofZ}
+use Rattle.tables.specs.Constants.{unvoicedGainMax}
 use Rattle.integers.specs.Base.{Within}
 use Rattle.integers.specs.Natural.{cond-elim}
 use Rattle.integers.specs.Signed.{back}
@@ -61,8 +62,8 @@ module _ (c : tie.After-doubled-gain Inv-loop μ-loop) where
   size-is : kept ≡ pos (size d)
   size-is = back w32 (c .doubled-gain .ok) (c .doubled-gain .ensures)
 
-  size-within : Within 13246 kept
-  size-within = subst (Within 13246) (sym size-is) (size-most d)
+  size-within : Within unvoicedGainMax kept
+  size-within = subst (Within unvoicedGainMax) (sym size-is) (size-most d)
 
   signed-is : (b : ℕ) → signedBy kept (d .signs) b ≡ signedBy (pos (size d)) (d .signs) b
   signed-is b = ap (λ (z : ℤ). signedBy z (d .signs) b) size-is
@@ -98,7 +99,7 @@ add-pulse-requires c κs =
       step-is (l .before .before .before),
       (
         placing-within (g .before .pre .0) (l .loop .inv) (t .if2 .taken),
-        subst (Within 13246) (sym (back w32 (amp .ok) (amp .ensures))) (signed-most (d g .signs) (l .loop .left - 1) (size-within g)),
+        subst (Within unvoicedGainMax) (sym (back w32 (amp .ok) (amp .ensures))) (signed-most (d g .signs) (l .loop .left - 1) (size-within g)),
       ),
     )
 
