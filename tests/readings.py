@@ -445,7 +445,7 @@ ERASURE = [
     (
         "replay-full",
         "replay(f, lag, f->tap_sum * attenuation / 32768);",
-        "replay(f, lag, f->run > HEARD_ERASED ? 0 : f->tap_sum);",
+        "replay(f, lag, f->run > MUTE_AFTER ? 0 : f->tap_sum);",
         "a voiced frame is not attenuated",
     ),
     ("replay-no-taps", "replay(f, lag, f->tap_sum * attenuation / 32768);", "replay(f, lag, attenuation);", "the tap sum plays no part"),
@@ -461,7 +461,7 @@ ERASURE = [
     (
         "noise-full",
         "make_noise(f, f->unvoiced_gain * attenuation / 32768);",
-        "make_noise(f, f->run > HEARD_ERASED ? 0 : f->unvoiced_gain);",
+        "make_noise(f, f->run > MUTE_AFTER ? 0 : f->unvoiced_gain);",
         "an unvoiced frame is not attenuated",
     ),
     (
@@ -487,9 +487,9 @@ ERASURE = [
     ("noise-top-bits", "noise / 256 % 65536 - 32768", "noise / 65536 - 32768", "noise from the top bits"),
     ("noise-truncated", "floor_div(gain * value, 32768)", "gain * value / 32768", "the noise truncates"),
     ("run-wraps", "limit(0, 4294967295LL, f->run + 1)", "(f->run + 1) % 4294967296LL", "the run wraps"),
-    ("run-stops-at-4", "limit(0, 4294967295LL, f->run + 1)", "limit(0, HEARD_ERASED + 1, f->run + 1)", "the run is counted to the muting alone"),
-    ("mute-after-2", "f->run > HEARD_ERASED ? 0", "f->run > 2 ? 0", "mute after 2"),
-    ("mute-after-4", "f->run > HEARD_ERASED ? 0", "f->run > 4 ? 0 : f->run == 4 ? 10368", "mute after 4"),
+    ("run-stops-at-4", "limit(0, 4294967295LL, f->run + 1)", "limit(0, MUTE_AFTER + 1, f->run + 1)", "the run is counted to the muting alone"),
+    ("mute-after-2", "f->run > MUTE_AFTER ? 0", "f->run > 2 ? 0", "mute after 2"),
+    ("mute-after-4", "f->run > MUTE_AFTER ? 0", "f->run > 4 ? 0 : f->run == 4 ? 10368", "mute after 4"),
     ("first-unattenuated", "ATTENUATION[f->run - 1]", "(f->run == 1 ? 32768 : ATTENUATION[f->run - 2])", "the first erased frame is not attenuated"),
     ("attenuated-alike", "ATTENUATION[f->run - 1]", "ATTENUATION[0]", "every erased frame is attenuated alike"),
     ("found-lag-stored", "    if (lag != 0)\n", "    if (lag != 0 && (f->base_lag = lag))\n", "the replayed lag is stored"),

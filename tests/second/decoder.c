@@ -676,7 +676,7 @@ static void make_noise(struct frame *f, int64_t gain)
 static void erased_frame(struct frame *f)
 {
     f->run = limit(0, 4294967295LL, f->run + 1);
-    int64_t attenuation = f->run > HEARD_ERASED ? 0 : ATTENUATION[f->run - 1];
+    int64_t attenuation = f->run > MUTE_AFTER ? 0 : ATTENUATION[f->run - 1];
     int64_t lag = voicing_lag(f);
     if (lag != 0)
         replay(f, lag, f->tap_sum * attenuation / 32768);

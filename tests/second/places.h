@@ -18,7 +18,7 @@ enum {
     SHORTEST_LAG = 18,
     LONGEST_LAG = 142,
     PASSES = 10,
-    HEARD_ERASED = 3
+    MUTE_AFTER = 3
 };
 
 enum { ERASED = 0, HIGH = 1, LOW = 2 };

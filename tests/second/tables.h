@@ -72,7 +72,7 @@ static const int64_t PULSES[SUBFRAMES] = {
 };
 
 /* Document 01, "Erasure": attenuation of the erased frames that are heard. */
-static const int64_t ATTENUATION[HEARD_ERASED] = {
+static const int64_t ATTENUATION[MUTE_AFTER] = {
     24576, 18432, 13824
 };
 
