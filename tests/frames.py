@@ -405,20 +405,20 @@ def ended(make):
     return lambda rng: b"".join(line + b"\n" for line in make(rng))
 
 
+def last_too_long(lines):
+    """The last line has no newline, and a character too many."""
+    return lambda rng: b"\n".join([*lines(rng), text(unvoiced(rng, LOW)) + b"0"])
+
+
 def frames_unended(rng):
     return b"\n".join([text(voiced(rng)), text(voiced(rng)), b"00", b"0", b"09", text(voiced(rng))])
-
-
-def frames_long(rng):
-    return b"\n".join([text(voiced(rng)), b"00", text(unvoiced(rng, LOW)) + b"0"])
 
 
 PROGRAMS = {
     "frames": lambda rng: b"00\n09\n\n",
     "frames_empty": lambda rng: b"",
     "frames_unended": frames_unended,
-    "frames_long": frames_long,
-    "frames_text": ended(frames_text),
+    "frames_text": last_too_long(frames_text),
     "frames_refused": ended(frames_refused),
     "frames_calls": ended(frames_calls),
 }
