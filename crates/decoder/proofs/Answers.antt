@@ -7,13 +7,16 @@ use borrow.Author.Tests.{eq-eqb, ne-eqb}
 use lib.Dec.{eqb}
 use lib.ListN.{length}
 use lib.IntN.{ℤ}
-use Rattle.excitation.specs.declared.Rate.the-variants as rates
+use Rattle.excitation.specs.declared.Rate.{Rate}
+use Rattle.layout.specs.Layout.{fieldsOf}
+use Rattle.layout.specs.declared.LspForm.{LspForm}
+use Rattle.record.specs.Record.{candidates}
 use Rattle.numbers.specs.Numbers.{numberOf}
 use Rattle.refusals.specs.Refusals.{found, numberFound}
 use Rattle.numbers.specs.declared.Refusal.{Refusal}
 use Rattle.numbers.specs.declared.Refusal.the-variants.{SampleLength, StateBounds}
 use Rattle.refusals.specs.declared.Found.{Found}
-use Rattle.refusals.specs.declared.Found.the-variants.{Erased, High, Low, Refused}
+use Rattle.refusals.specs.declared.Found.the-variants.{Erased, Received, Refused}
 use Rattle.state.specs.State.{inBounds}
 use Rattle.state.specs.declared.State.{State}
 use Rattle.decoder.specs.Frame.{erasedSamples, erasedState, receivedSamples, receivedState}
@@ -49,8 +52,7 @@ module _ (s : State) (r : List ℕ) (samples : List ℤ) where
   unfolding answerTo
   number-to (Refused n) = refl
   number-to Erased = refl
-  number-to High = refl
-  number-to Low = refl
+  number-to (Received rate form) = refl
 
   promised : (k : Found) → examined s r samples ≡ k → {a : Answer} {o : List ℤ} →
       a ≡ answerTo k s r → o ≡ samplesTo k s r samples → Promised a o
@@ -72,12 +74,8 @@ module _ (s : State) (r : List ℕ) (samples : List ℤ) where
   unfolding answerTo samplesTo
   erased-promised e p q = promised Erased e p q
 
-  pub high-promised : examined s r samples ≡ High → {a : Answer} {o : List ℤ} →
-      a ≡ acceptance (receivedState s rates.High r) → o ≡ receivedSamples s rates.High r → Promised a o
+  pub received-promised : (rate : Rate) (form : LspForm) → examined s r samples ≡ Received rate form → {a : Answer} {o : List ℤ} →
+      a ≡ acceptance (receivedState s rate (fieldsOf form r) (candidates r)) →
+      o ≡ receivedSamples s rate (fieldsOf form r) (candidates r) → Promised a o
   unfolding answerTo samplesTo
-  high-promised e p q = promised High e p q
-
-  pub low-promised : examined s r samples ≡ Low → {a : Answer} {o : List ℤ} →
-      a ≡ acceptance (receivedState s rates.Low r) → o ≡ receivedSamples s rates.Low r → Promised a o
-  unfolding answerTo samplesTo
-  low-promised e p q = promised Low e p q
+  received-promised rate form e p q = promised (Received rate form) e p q

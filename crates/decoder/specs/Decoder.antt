@@ -6,12 +6,13 @@ use lib.Dec.{eqb}
 use lib.IntN.{ℤ}
 use lib.ListN.{length}
 use Rattle.tables.specs.Constants.{frameSize}
-use Rattle.excitation.specs.declared.Rate.the-variants as rates
+use Rattle.layout.specs.Layout.{fieldsOf}
+use Rattle.record.specs.Record.{candidates}
 use Rattle.refusals.specs.Refusals.{found, numberFound}
 use Rattle.numbers.specs.declared.Refusal.{Refusal}
 use Rattle.numbers.specs.declared.Refusal.the-variants.{SampleLength, StateBounds}
 use Rattle.refusals.specs.declared.Found.{Found}
-use Rattle.refusals.specs.declared.Found.the-variants.{Erased, High, Low, Refused}
+use Rattle.refusals.specs.declared.Found.the-variants.{Erased, Received, Refused}
 use Rattle.numbers.specs.declared.Verdict.the-variants as verdicts
 use Rattle.state.specs.State.{inBounds}
 use Rattle.state.specs.declared.State.{State}
@@ -38,15 +39,13 @@ acceptance next = record { verdict = verdicts.Accepted; state = next }
 unfoldable pub answerTo : Found → State → List ℕ → Answer
 answerTo (Refused n) s r = refusal s n
 answerTo Erased s r = acceptance (erasedState s)
-answerTo High s r = acceptance (receivedState s rates.High r)
-answerTo Low s r = acceptance (receivedState s rates.Low r)
+answerTo (Received rate form) s r = acceptance (receivedState s rate (fieldsOf form r) (candidates r))
 
 -- the samples: a refusal changes none
 unfoldable pub samplesTo : Found → State → List ℕ → List ℤ → List ℤ
 samplesTo (Refused n) s r samples = samples
 samplesTo Erased s r samples = erasedSamples s
-samplesTo High s r samples = receivedSamples s rates.High r
-samplesTo Low s r samples = receivedSamples s rates.Low r
+samplesTo (Received rate form) s r samples = receivedSamples s rate (fieldsOf form r) (candidates r)
 
 -- ---- what `decode` promises: its answer, the number of its verdict, and the samples at exit
 

@@ -20,7 +20,7 @@ use Rattle.output.specs.declared.Filters.{Filters}
 use Rattle.voicing.specs.Voicing.{voicingOf}
 use Rattle.noise.specs.Noise.{nextRun}
 use Rattle.erasure.specs.Erasure.{erasedExcitation}
-use Rattle.record.specs.Record.{candidates, blockOf}
+use Rattle.record.specs.Record.{blockOf}
 use Rattle.record.specs.declared.Block.{Block}
 use Rattle.widths.specs.Widths.{frameSignal, historyAfter}
 use Rattle.state.specs.declared.State.{State}
@@ -100,39 +100,35 @@ module _ (s : State) where
   unfoldable pub erasedState : State
   erasedState = frameState s erasedLsps (plainInputs erasedSignal) erasedSignal erasedLast
 
--- ---- a received frame (decode_params), of the record r
+-- ---- a received frame (decode_params), of candidate LSPs and the record's fields f after its head
+
+abbrev pub receivedLsps : State → List ℤ → List ℤ
+receivedLsps s candidates = checkOrPrevious (pos lspMinimum) candidates (s .«prev_lsp»)
 
 -- x with the excitation of a subframe, by its block: the adaptive part and the fixed vector
 abbrev pub receivedTo : Block → List ℤ → Subframe → List ℤ
 receivedTo b x k = withSubframe x (subframePlace k) (limitedSum (adaptive x (subframePlace k) (limitedLag (b .lag)) (b .taps)) (b .fixed))
 
-module _ (s : State) (rate : Rate) (r : List ℕ) where
-  abbrev pub receivedLsps : List ℤ
-  receivedLsps = checkOrPrevious (pos lspMinimum) (candidates r) (s .«prev_lsp»)
-
-  -- the record's block of a subframe
-  abbrev pub block : Subframe → Block
-  block k = blockOf rate r k
-
+module _ (s : State) (rate : Rate) (f : List ℕ) where
   abbrev pub receivedSignal : List ℤ
-  receivedSignal = inTurn (λ x k. receivedTo (block k) x k) (frameSignal (s .«exc_hist»))
+  receivedSignal = inTurn (λ x k. receivedTo (blockOf rate f k) x k) (frameSignal (s .«exc_hist»))
 
   -- the pitch postfilter goes by base lags
   abbrev pub receivedInputs : List (List ℤ)
-  receivedInputs = cond (s .postfilter) (pitchInputs rate (λ k. block k .«base_lag») receivedSignal) (plainInputs receivedSignal)
+  receivedInputs = cond (s .postfilter) (pitchInputs rate (λ k. blockOf rate f k .«base_lag») receivedSignal) (plainInputs receivedSignal)
 
   -- the lags of subframes 3 and 2, the tap sum of subframe 3, and the gains of subframes 2 and 3
   abbrev pub receivedLast : LastFrame
   receivedLast = record {
-    «last_lag» = block Three .lag;
-    «last_lag2» = block Two .lag;
-    «last_taps_sum_q15» = tapSum (block Three .taps);
-    «last_gain_unvoiced» = pos (unvoicedGain (block Two .«gain_index») (block Three .«gain_index»));
+    «last_lag» = blockOf rate f Three .lag;
+    «last_lag2» = blockOf rate f Two .lag;
+    «last_taps_sum_q15» = tapSum (blockOf rate f Three .taps);
+    «last_gain_unvoiced» = pos (unvoicedGain (blockOf rate f Two .«gain_index») (blockOf rate f Three .«gain_index»));
     «erased_run» = 0;
   }
 
-  unfoldable pub receivedSamples : List ℤ
-  receivedSamples = frameSamples s receivedLsps receivedInputs
+  unfoldable pub receivedSamples : List ℤ → List ℤ
+  receivedSamples candidates = frameSamples s (receivedLsps s candidates) receivedInputs
 
-  unfoldable pub receivedState : State
-  receivedState = frameState s receivedLsps receivedInputs receivedSignal receivedLast
+  unfoldable pub receivedState : List ℤ → State
+  receivedState candidates = frameState s (receivedLsps s candidates) receivedInputs receivedSignal receivedLast

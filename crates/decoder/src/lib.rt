@@ -162,19 +162,24 @@ fn decode_erased(samples: &mut [i16], given: State) -> State
 }
 
 // The Rust's decode_params, from lsp_check_or_previous on.
-fn decode_received(samples: &mut [i16], given: State, rate: Rate, record: &[u8]) -> State
+fn decode_received(
+    samples: &mut [i16],
+    given: State,
+    rate: Rate,
+    fields: &[u8],
+    candidates: [i16; 10],
+) -> State
     requires { ⌜ length (now samples) ≡ 240 ⌝ }
     requires { ⌜ inBounds given ≡ true ⌝ }
-    ensures state { λ r. ⌜ r ≡ receivedState given rate (now («record» .entry)) ⌝ }
-    ensures samples { λ r. ⌜ now (samples .exit) ≡ receivedSamples given rate (now («record» .entry)) ⌝ }
+    ensures state { λ r. ⌜ r ≡ receivedState given rate (now (fields .entry)) candidates ⌝ }
+    ensures samples { λ r. ⌜ now (samples .exit) ≡ receivedSamples given rate (now (fields .entry)) candidates ⌝ }
 {
     let prev = given.prev_lsp;
-    let candidates = record::candidate_lsps(record);
     let lsps = stability::lsp_check_or_previous(candidates, prev, tables::LSP_DELTA_MIN_Q15);
-    let b0 = record::read_block(record, rate, Subframe::Zero);
-    let b1 = record::read_block(record, rate, Subframe::One);
-    let b2 = record::read_block(record, rate, Subframe::Two);
-    let b3 = record::read_block(record, rate, Subframe::Three);
+    let b0 = record::read_block(fields, rate, Subframe::Zero);
+    let b1 = record::read_block(fields, rate, Subframe::One);
+    let b2 = record::read_block(fields, rate, Subframe::Two);
+    let b3 = record::read_block(fields, rate, Subframe::Three);
     let history = given.exc_hist;
     let x0 = widths::frame_signal(history);
     let x1 = received_subframe(x0, Subframe::Zero, b0);
@@ -230,12 +235,10 @@ pub fn decode(given: State, record: &[u8], samples: &mut [i16]) -> Answer
             let next = decode_erased(samples, given);
             accepted(next)
         }
-        Found::High => {
-            let next = decode_received(samples, given, Rate::High, record);
-            accepted(next)
-        }
-        Found::Low => {
-            let next = decode_received(samples, given, Rate::Low, record);
+        Found::Received(rate, form) => {
+            let candidates = record::candidate_lsps(record);
+            let fields = layout::fields(record, form);
+            let next = decode_received(samples, given, rate, fields, candidates);
             accepted(next)
         }
     }

@@ -1,8 +1,32 @@
-// Where the fields of a record stand.
+// Where the fields of a record stand: those after its head are a part of it, with places of their own.
 ghost use mathlib.Core.Path.{_≡_};
-ghost use Rattle.layout.specs.Layout.{lagPlace, blockPlace};
+ghost use Rattle.layout.specs.Layout.{headBytes, fieldsOf, lagPlace, blockPlace};
 use excitation::Rate;
 use excitation::Subframe;
+
+// How a record gives its candidate LSPs: as ten values.
+pub enum LspForm {
+    Values,
+}
+
+fn head_bytes(form: LspForm) -> usize
+    ensures { λ r. ⌜ r ≡ headBytes form ⌝ }
+{
+    match form {
+        LspForm::Values => tables::HEAD_VALUES_BYTES,
+    }
+}
+
+// The fields after the head; a record that ends before them has none.
+pub fn fields<'a>(record: &'a [u8], form: LspForm) -> &'a [u8]
+    ensures { λ r. ⌜ now r ≡ fieldsOf form (now («record» .entry)) ⌝ }
+{
+    let at = head_bytes(form);
+    if record.len() < at {
+        return &record[0..0];
+    }
+    &record[at..record.len()]
+}
 
 // The byte of a subframe's base lag code.
 pub fn lag_place(s: Subframe) -> usize

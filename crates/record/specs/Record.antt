@@ -1,4 +1,4 @@
--- The fields of a record (document 01, "The record"). r is its bytes; past its end they read as 0.
+-- The fields of a record (document 01, "The record"). r is its bytes and f its fields after the head; past the end they read as 0.
 use mathlib.Core.Bool.{Bool}
 use mathlib.Core.List.{List}
 use Prim.Native.Nat.{ℕ, _+_, _*_, _/_, _%_}
@@ -23,7 +23,7 @@ use Rattle.record.specs.declared.Block.{Block}
 
 -- n 16-bit values from byte i on
 abbrev pub words : List ℕ → ℕ → ℕ → List ℤ
-words r i n = tabulate (λ k. word r (i + 2 * k)) n
+words b i n = tabulate (λ k. word b (i + 2 * k)) n
 
 -- ---- candidates and lags
 
@@ -32,7 +32,7 @@ abbrev pub candidates : List ℕ → List ℤ
 candidates r = words r lspsPlace lpcOrder
 
 abbrev pub baseLag : List ℕ → Subframe → ℕ
-baseLag r s = byte r (lagPlace s) + pitchMin
+baseLag f s = byte f (lagPlace s) + pitchMin
 
 -- what a step code adds: codes 0, 1, 2, 3 add -1, 0, 1, 2
 abbrev pub step : ℕ → ℤ
@@ -40,35 +40,35 @@ step code = pos code -ℤ pos stepCodeZero
 
 -- a subframe's own lag: the base lag, and in odd subframes a step
 abbrev pub lag : List ℕ → Subframe → ℤ
-lag r Zero = pos (baseLag r Zero)
-lag r One = pos (baseLag r One) +ℤ step (byte r step1Place)
-lag r Two = pos (baseLag r Two)
-lag r Three = pos (baseLag r Three) +ℤ step (byte r step3Place)
+lag f Zero = pos (baseLag f Zero)
+lag f One = pos (baseLag f One) +ℤ step (byte f step1Place)
+lag f Two = pos (baseLag f Two)
+lag f Three = pos (baseLag f Three) +ℤ step (byte f step3Place)
 
 -- ---- blocks
 
 -- both kinds: five taps and a gain index
 abbrev pub taps : Rate → List ℕ → Subframe → List ℤ
-taps rate r s = words r (blockPlace rate s) acbTaps
+taps rate f s = words f (blockPlace rate s) acbTaps
 
 abbrev pub gainIndex : Rate → List ℕ → Subframe → ℕ
-gainIndex rate r s = byte r (blockPlace rate s + gainIndexPlace)
+gainIndex rate f s = byte f (blockPlace rate s + gainIndexPlace)
 
 -- High: a flags byte with the grid as bit 0 and the train as bit 1, a sign byte and a 24-bit position code
 abbrev pub flags : List ℕ → Subframe → ℕ
-flags r s = byte r (blockPlace High s + flagsPlace)
+flags f s = byte f (blockPlace High s + flagsPlace)
 
 abbrev pub grid : List ℕ → Subframe → Bool
-grid r s = eqb (flags r s % 2) 1
+grid f s = eqb (flags f s % 2) 1
 
 abbrev pub train : List ℕ → Subframe → Bool
-train r s = eqb (flags r s / 2 % 2) 1
+train f s = eqb (flags f s / 2 % 2) 1
 
 abbrev pub signs : List ℕ → Subframe → ℕ
-signs r s = byte r (blockPlace High s + signsPlace)
+signs f s = byte f (blockPlace High s + signsPlace)
 
 abbrev pub positionCode : List ℕ → Subframe → ℕ
-positionCode r s = code r (blockPlace High s + codePlace)
+positionCode f s = code f (blockPlace High s + codePlace)
 
 -- six pulses in even subframes, five in odd ones
 abbrev pub count : Subframe → Count
@@ -78,27 +78,27 @@ count Two = Six
 count Three = Five
 
 abbrev pub description : List ℕ → Subframe → Description
-description r s = record {
+description f s = record {
   count = count s;
-  train = train r s;
-  «base_lag» = baseLag r s;
-  grid = grid r s;
-  code = positionCode r s;
-  signs = signs r s;
-  «gain_index» = gainIndex High r s;
+  train = train f s;
+  «base_lag» = baseLag f s;
+  grid = grid f s;
+  code = positionCode f s;
+  signs = signs f s;
+  «gain_index» = gainIndex High f s;
 }
 
 -- the fixed vector: that of the pulse description, or sixty values
 abbrev pub fixed : Rate → List ℕ → Subframe → List ℤ
-fixed High r s = vector (description r s)
-fixed Low r s = words r (blockPlace Low s + valuesPlace) subframeSize
+fixed High f s = vector (description f s)
+fixed Low f s = words f (blockPlace Low s + valuesPlace) subframeSize
 
 -- what the decoder reads of a subframe
 unfoldable pub blockOf : Rate → List ℕ → Subframe → Block
-blockOf rate r s = record {
-  «base_lag» = pos (baseLag r s);
-  lag = lag r s;
-  taps = taps rate r s;
-  «gain_index» = gainIndex rate r s;
-  fixed = fixed rate r s;
+blockOf rate f s = record {
+  «base_lag» = pos (baseLag f s);
+  lag = lag f s;
+  taps = taps rate f s;
+  «gain_index» = gainIndex rate f s;
+  fixed = fixed rate f s;
 }

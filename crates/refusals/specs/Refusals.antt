@@ -1,6 +1,6 @@
--- Which of the numbers 3 to 10 a record gets (document 01, "The ten numbers, tested in this order"). r is the record's bytes.
+-- Which of the numbers 3 to 10 a record gets (document 01, "The ten numbers, tested in this order"). r is the record's bytes and f its fields after the head.
 use mathlib.Core.Path.{_≡_}
-use mathlib.Core.Bool.{Bool, cond, not, _&&_, _||_}
+use mathlib.Core.Bool.{Bool, false, cond, not, _&&_, _||_}
 use mathlib.Core.List.{List}
 use Prim.Native.Nat.{ℕ, zero, suc, _^_}
 use lib.Dec.{ltb, leb, eqb}
@@ -11,13 +11,16 @@ use Rattle.positions.specs.Positions.{pulses}
 use Rattle.excitation.specs.declared.Subframe.{Subframe}
 use Rattle.excitation.specs.declared.Subframe.the-variants.{Zero, One, Two, Three}
 use Rattle.excitation.specs.declared.Rate.{Rate}
-use Rattle.excitation.specs.declared.Rate.the-variants as rates
+use Rattle.excitation.specs.declared.Rate.the-variants.{High, Low}
 use Rattle.reader.specs.Fields.{byte}
+use Rattle.layout.specs.Layout.{fieldsOf}
+use Rattle.layout.specs.declared.LspForm.{LspForm}
+use Rattle.layout.specs.declared.LspForm.the-variants.{Values}
 use Rattle.record.specs.Record.{baseLag, gainIndex, flags, train, signs, count}
 use Rattle.numbers.specs.Numbers.{number}
 use Rattle.numbers.specs.declared.Refusal.the-variants.{NoByte, Kind, Length, LagCode, StepCode, GainIndex, Flags, Signs}
 use Rattle.refusals.specs.declared.Found.{Found}
-use Rattle.refusals.specs.declared.Found.the-variants.{Erased, High, Low, Refused}
+use Rattle.refusals.specs.declared.Found.the-variants.{Erased, Received, Refused}
 
 -- ---- what each number asks
 
@@ -40,11 +43,11 @@ wrongLength r = not (eqb (length r) (recordBytes (byte r 0)))
 
 -- 6: a base lag code is above 127
 abbrev pub wrongLagCode : List ℕ → Bool
-wrongLagCode r = ltb lagCodeMax (byte r lagAPlace) || ltb lagCodeMax (byte r lagBPlace)
+wrongLagCode f = ltb lagCodeMax (byte f lagAPlace) || ltb lagCodeMax (byte f lagBPlace)
 
 -- 7: a step code is above 3
 abbrev pub wrongStepCode : List ℕ → Bool
-wrongStepCode r = ltb stepCodeMax (byte r step1Place) || ltb stepCodeMax (byte r step3Place)
+wrongStepCode f = ltb stepCodeMax (byte f step1Place) || ltb stepCodeMax (byte f step3Place)
 
 -- whether a test holds in a subframe
 abbrev pub anySubframe : (Subframe → Bool) → Bool
@@ -52,38 +55,37 @@ anySubframe t = t Zero || (t One || (t Two || t Three))
 
 -- 8: a gain index is above 23
 abbrev pub wrongGainIndex : Rate → List ℕ → Bool
-wrongGainIndex rate r = anySubframe (λ s. ltb gainIndexMax (gainIndex rate r s))
+wrongGainIndex rate f = anySubframe (λ s. ltb gainIndexMax (gainIndex rate f s))
 
--- 9: a flags byte is above 3, or train is set with a base lag of 58 or more
+-- 9, which High alone has: a flags byte is above 3, or train is set with a base lag of 58 or more
 abbrev pub wrongFlagsIn : List ℕ → Subframe → Bool
-wrongFlagsIn r s = ltb flagsMax (flags r s) || (train r s && leb trainLagLimit (baseLag r s))
+wrongFlagsIn f s = ltb flagsMax (flags f s) || (train f s && leb trainLagLimit (baseLag f s))
 
-abbrev pub wrongFlags : List ℕ → Bool
-wrongFlags r = anySubframe (wrongFlagsIn r)
+abbrev pub wrongFlags : Rate → List ℕ → Bool
+wrongFlags High f = anySubframe (wrongFlagsIn f)
+wrongFlags Low f = false
 
--- 10: a sign byte has a bit at or above the subframe's pulse count
+-- 10, which High alone has: a sign byte has a bit at or above the subframe's pulse count
 abbrev pub wrongSignsIn : List ℕ → Subframe → Bool
-wrongSignsIn r s = leb (2 ^ pulses (count s)) (signs r s)
+wrongSignsIn f s = leb (2 ^ pulses (count s)) (signs f s)
 
-abbrev pub wrongSigns : List ℕ → Bool
-wrongSigns r = anySubframe (wrongSignsIn r)
+abbrev pub wrongSigns : Rate → List ℕ → Bool
+wrongSigns High f = anySubframe (wrongSignsIn f)
+wrongSigns Low f = false
 
 -- ---- the first that applies
 
--- 9 and 10, which only a High record has
-unfoldable pub foundHigh : List ℕ → Found
-foundHigh r = cond (wrongFlags r) (Refused Flags) (cond (wrongSigns r) (Refused Signs) High)
-
--- 6 to 8, and what is found where none applies
-unfoldable pub foundReceived : Rate → List ℕ → Found → Found
-foundReceived rate r rest =
-    cond (wrongLagCode r) (Refused LagCode) (cond (wrongStepCode r) (Refused StepCode) (cond (wrongGainIndex rate r) (Refused GainIndex) rest))
+-- 6 to 10
+unfoldable pub foundReceived : Rate → LspForm → List ℕ → Found
+foundReceived rate form f =
+    cond (wrongLagCode f) (Refused LagCode) (cond (wrongStepCode f) (Refused StepCode) (cond (wrongGainIndex rate f) (Refused GainIndex)
+    (cond (wrongFlags rate f) (Refused Flags) (cond (wrongSigns rate f) (Refused Signs) (Received rate form)))))
 
 -- by its kind
 unfoldable pub foundOf : ℕ → List ℕ → Found
 foundOf zero r = Erased
-foundOf (suc zero) r = foundReceived rates.High r (foundHigh r)
-foundOf (suc (suc n)) r = foundReceived rates.Low r Low
+foundOf (suc zero) r = foundReceived High Values (fieldsOf Values r)
+foundOf (suc (suc n)) r = foundReceived Low Values (fieldsOf Values r)
 
 -- 3 to 5 before all else
 unfoldable pub found : List ℕ → Found
@@ -94,15 +96,18 @@ found r = cond (noByte r) (Refused NoByte) (cond (wrongKind r) (Refused Kind) (c
 -- the number: that of the refusal, 0 where the record is accepted
 abbrev pub numberFound : Found → ℕ
 numberFound Erased = 0
-numberFound High = 0
-numberFound Low = 0
+numberFound (Received rate form) = 0
 numberFound (Refused n) = number n
+
+-- the kind of a received record
+abbrev pub kindOf : Rate → LspForm → ℕ
+kindOf High Values = 1
+kindOf Low Values = 2
 
 -- the kind: byte 0 of a record that is accepted; a refused one may have any
 abbrev pub IsKind : Found → ℕ → Type 0
 IsKind Erased kind = kind ≡ 0
-IsKind High kind = kind ≡ 1
-IsKind Low kind = kind ≡ 2
+IsKind (Received rate form) kind = kind ≡ kindOf rate form
 IsKind (Refused n) kind = Unit
 
 -- a record's number: the first of 3 to 10 that applies, or 0

@@ -1,19 +1,20 @@
-// What a record is found to be: erased, High, Low, or refused with one of the numbers 3 to 10.
+// What a record is found to be: erased, received, or refused with one of the numbers 3 to 10.
 ghost use mathlib.Core.Path.{_≡_};
 ghost use mathlib.Core.Bool.{_||_};
 ghost use lib.Dec.{ltb};
 ghost use Rattle.tables.specs.Constants.{gainIndexMax};
 ghost use Rattle.reader.specs.Fields.{byte};
+ghost use Rattle.layout.specs.Layout.{fieldsOf};
 ghost use Rattle.record.specs.Record.{gainIndex};
-ghost use Rattle.refusals.specs.Refusals.{recordBytes, wrongLagCode, wrongStepCode, wrongGainIndex, wrongFlagsIn, wrongFlags, wrongSignsIn, wrongSigns, foundHigh, foundReceived, found, numberFound, IsKind, recordNumber};
+ghost use Rattle.refusals.specs.Refusals.{recordBytes, wrongLagCode, wrongStepCode, wrongGainIndex, wrongFlagsIn, wrongFlags, wrongSignsIn, wrongSigns, foundReceived, found, numberFound, IsKind, recordNumber};
 use excitation::Rate;
 use excitation::Subframe;
+use layout::LspForm;
 use numbers::Refusal;
 
 pub enum Found {
     Erased,
-    High,
-    Low,
+    Received(Rate, LspForm),
     Refused(Refusal),
 }
 
@@ -29,28 +30,28 @@ fn record_bytes(kind: u8) -> usize
 }
 
 // A byte at one of two places is above a limit.
-fn either_above(record: &[u8], i: usize, j: usize, most: u8) -> bool
-    ensures { λ r. ⌜ r ≡ (ltb most (byte (now («record» .entry)) i) || ltb most (byte (now («record» .entry)) j)) ⌝ }
+fn either_above(fields: &[u8], i: usize, j: usize, most: u8) -> bool
+    ensures { λ r. ⌜ r ≡ (ltb most (byte (now (fields .entry)) i) || ltb most (byte (now (fields .entry)) j)) ⌝ }
 {
-    reader::byte_field(record, i) > most || reader::byte_field(record, j) > most
+    reader::byte_field(fields, i) > most || reader::byte_field(fields, j) > most
 }
 
-fn lag_code_above(record: &[u8]) -> bool
-    ensures { λ r. ⌜ r ≡ wrongLagCode (now («record» .entry)) ⌝ }
+fn lag_code_above(fields: &[u8]) -> bool
+    ensures { λ r. ⌜ r ≡ wrongLagCode (now (fields .entry)) ⌝ }
 {
     either_above(
-        record,
+        fields,
         tables::LAG_A_PLACE,
         tables::LAG_B_PLACE,
         tables::LAG_CODE_MAX,
     )
 }
 
-fn step_code_above(record: &[u8]) -> bool
-    ensures { λ r. ⌜ r ≡ wrongStepCode (now («record» .entry)) ⌝ }
+fn step_code_above(fields: &[u8]) -> bool
+    ensures { λ r. ⌜ r ≡ wrongStepCode (now (fields .entry)) ⌝ }
 {
     either_above(
-        record,
+        fields,
         tables::STEP_1_PLACE,
         tables::STEP_3_PLACE,
         tables::STEP_CODE_MAX,
@@ -64,57 +65,60 @@ fn in_any(zero: bool, one: bool, two: bool, three: bool) -> bool
     zero || (one || (two || three))
 }
 
-fn gain_above(record: &[u8], rate: Rate, s: Subframe) -> bool
-    ensures { λ r. ⌜ r ≡ ltb gainIndexMax (gainIndex rate (now («record» .entry)) s) ⌝ }
+fn gain_above(fields: &[u8], rate: Rate, s: Subframe) -> bool
+    ensures { λ r. ⌜ r ≡ ltb gainIndexMax (gainIndex rate (now (fields .entry)) s) ⌝ }
 {
     reader::byte_field(
-        record,
+        fields,
         layout::block_place(rate, s) + tables::GAIN_INDEX_PLACE,
     )
         > tables::GAIN_INDEX_MAX
 }
 
-fn any_gain_above(record: &[u8], rate: Rate) -> bool
-    ensures { λ r. ⌜ r ≡ wrongGainIndex rate (now («record» .entry)) ⌝ }
+fn any_gain_above(fields: &[u8], rate: Rate) -> bool
+    ensures { λ r. ⌜ r ≡ wrongGainIndex rate (now (fields .entry)) ⌝ }
 {
     in_any(
-        gain_above(record, rate, Subframe::Zero),
-        gain_above(record, rate, Subframe::One),
-        gain_above(record, rate, Subframe::Two),
-        gain_above(record, rate, Subframe::Three),
+        gain_above(fields, rate, Subframe::Zero),
+        gain_above(fields, rate, Subframe::One),
+        gain_above(fields, rate, Subframe::Two),
+        gain_above(fields, rate, Subframe::Three),
     )
 }
 
-fn flags_wrong(record: &[u8], s: Subframe) -> bool
-    ensures { λ r. ⌜ r ≡ wrongFlagsIn (now («record» .entry)) s ⌝ }
+fn flags_wrong(fields: &[u8], s: Subframe) -> bool
+    ensures { λ r. ⌜ r ≡ wrongFlagsIn (now (fields .entry)) s ⌝ }
 {
     let flags = reader::byte_field(
-        record,
+        fields,
         layout::block_place(Rate::High, s) + tables::FLAGS_PLACE,
     );
     if flags > tables::FLAGS_MAX {
         return true;
     }
-    let lag = reader::byte_field(record, layout::lag_place(s)) as i32 + tables::PITCH_MIN;
+    let lag = reader::byte_field(fields, layout::lag_place(s)) as i32 + tables::PITCH_MIN;
     flags / 2 % 2 == 1 && lag >= tables::TRAIN_LAG_LIMIT
 }
 
-fn any_flags_wrong(record: &[u8]) -> bool
-    ensures { λ r. ⌜ r ≡ wrongFlags (now («record» .entry)) ⌝ }
+fn any_flags_wrong(fields: &[u8], rate: Rate) -> bool
+    ensures { λ r. ⌜ r ≡ wrongFlags rate (now (fields .entry)) ⌝ }
 {
-    in_any(
-        flags_wrong(record, Subframe::Zero),
-        flags_wrong(record, Subframe::One),
-        flags_wrong(record, Subframe::Two),
-        flags_wrong(record, Subframe::Three),
-    )
+    match rate {
+        Rate::High => in_any(
+            flags_wrong(fields, Subframe::Zero),
+            flags_wrong(fields, Subframe::One),
+            flags_wrong(fields, Subframe::Two),
+            flags_wrong(fields, Subframe::Three),
+        ),
+        Rate::Low => false,
+    }
 }
 
-fn signs_wrong(record: &[u8], s: Subframe) -> bool
-    ensures { λ r. ⌜ r ≡ wrongSignsIn (now («record» .entry)) s ⌝ }
+fn signs_wrong(fields: &[u8], s: Subframe) -> bool
+    ensures { λ r. ⌜ r ≡ wrongSignsIn (now (fields .entry)) s ⌝ }
 {
     let signs = reader::byte_field(
-        record,
+        fields,
         layout::block_place(Rate::High, s) + tables::SIGNS_PLACE,
     );
     match s {
@@ -125,47 +129,50 @@ fn signs_wrong(record: &[u8], s: Subframe) -> bool
     }
 }
 
-fn any_signs_wrong(record: &[u8]) -> bool
-    ensures { λ r. ⌜ r ≡ wrongSigns (now («record» .entry)) ⌝ }
+fn any_signs_wrong(fields: &[u8], rate: Rate) -> bool
+    ensures { λ r. ⌜ r ≡ wrongSigns rate (now (fields .entry)) ⌝ }
 {
-    in_any(
-        signs_wrong(record, Subframe::Zero),
-        signs_wrong(record, Subframe::One),
-        signs_wrong(record, Subframe::Two),
-        signs_wrong(record, Subframe::Three),
-    )
+    match rate {
+        Rate::High => in_any(
+            signs_wrong(fields, Subframe::Zero),
+            signs_wrong(fields, Subframe::One),
+            signs_wrong(fields, Subframe::Two),
+            signs_wrong(fields, Subframe::Three),
+        ),
+        Rate::Low => false,
+    }
 }
 
-// Numbers 9 and 10.
-fn high_found(record: &[u8]) -> Found
-    ensures { λ r. ⌜ r ≡ foundHigh (now («record» .entry)) ⌝ }
+// Numbers 6 to 10.
+fn received_found(fields: &[u8], rate: Rate, form: LspForm) -> Found
+    ensures { λ r. ⌜ r ≡ foundReceived rate form (now (fields .entry)) ⌝ }
 {
-    if any_flags_wrong(record) {
-        return Found::Refused(Refusal::Flags);
-    }
-    if any_signs_wrong(record) {
-        return Found::Refused(Refusal::Signs);
-    }
-    Found::High
-}
-
-// Numbers 6 to 8, and else the rest.
-fn received_found(record: &[u8], rate: Rate, rest: Found) -> Found
-    ensures { λ r. ⌜ r ≡ foundReceived rate (now («record» .entry)) rest ⌝ }
-{
-    if lag_code_above(record) {
+    if lag_code_above(fields) {
         return Found::Refused(Refusal::LagCode);
     }
-    if step_code_above(record) {
+    if step_code_above(fields) {
         return Found::Refused(Refusal::StepCode);
     }
-    if any_gain_above(record, rate) {
+    if any_gain_above(fields, rate) {
         return Found::Refused(Refusal::GainIndex);
     }
-    rest
+    if any_flags_wrong(fields, rate) {
+        return Found::Refused(Refusal::Flags);
+    }
+    if any_signs_wrong(fields, rate) {
+        return Found::Refused(Refusal::Signs);
+    }
+    Found::Received(rate, form)
 }
 
-// The first number that applies, or the record's kind.
+// The same of a record, by its fields.
+fn record_found(record: &[u8], rate: Rate, form: LspForm) -> Found
+    ensures { λ r. ⌜ r ≡ foundReceived rate form (fieldsOf form (now («record» .entry))) ⌝ }
+{
+    received_found(layout::fields(record, form), rate, form)
+}
+
+// The first number that applies, or what the record is.
 pub fn examine(record: &[u8]) -> Found
     ensures answer { λ r. ⌜ r ≡ found (now («record» .entry)) ⌝ }
     ensures number { λ r. ⌜ numberFound r ≡ recordNumber (now («record» .entry)) ⌝ }
@@ -183,7 +190,7 @@ pub fn examine(record: &[u8]) -> Found
     }
     match kind {
         0 => Found::Erased,
-        1 => received_found(record, Rate::High, high_found(record)),
-        _ => received_found(record, Rate::Low, Found::Low),
+        1 => record_found(record, Rate::High, LspForm::Values),
+        _ => record_found(record, Rate::Low, LspForm::Values),
     }
 }

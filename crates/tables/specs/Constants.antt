@@ -188,24 +188,29 @@ recordHighBytes = 89
 abbrev pub recordLowBytes : ℕ
 recordLowBytes = 549
 
--- places: candidate LSPs, base lag code A, the step code of subframe 1, base lag code B, the step code of subframe 3, the first block
+-- the place of candidate LSPs
 abbrev pub lspsPlace : ℕ
 lspsPlace = 1
 
+-- the bytes of the head: the kind and ten LSPs
+abbrev pub headValuesBytes : ℕ
+headValuesBytes = 21
+
+-- places in the fields after the head: base lag code A, the step code of subframe 1, base lag code B, the step code of subframe 3, the first block
 abbrev pub lagAPlace : ℕ
-lagAPlace = 21
+lagAPlace = 0
 
 abbrev pub step1Place : ℕ
-step1Place = 22
+step1Place = 1
 
 abbrev pub lagBPlace : ℕ
-lagBPlace = 23
+lagBPlace = 2
 
 abbrev pub step3Place : ℕ
-step3Place = 24
+step3Place = 3
 
 abbrev pub blocksPlace : ℕ
-blocksPlace = 25
+blocksPlace = 4
 
 abbrev pub blockHighBytes : ℕ
 blockHighBytes = 16

@@ -134,8 +134,9 @@ pub const TAPS_SUM_MAX_Q15: i32 = 32767;
 
 pub const GAIN_UNVOICED_MAX: i32 = 13246;
 
-// The record: its largest kind, lengths by kind, places, the lengths of blocks, places in a block, largest lag and step codes,
-// the step code that adds 0, largest gain index and flags.
+// The record: its largest kind, lengths by kind, the place of the LSPs, the head, which is the kind and the LSPs, places in the
+// fields after the head, the lengths of blocks, places in a block, largest lag and step codes, the step code that adds 0, largest
+// gain index and flags.
 pub const KIND_MAX: u8 = 2;
 
 pub const RECORD_ERASED_BYTES: usize = 1;
@@ -146,15 +147,17 @@ pub const RECORD_LOW_BYTES: usize = 549;
 
 pub const LSPS_PLACE: usize = 1;
 
-pub const LAG_A_PLACE: usize = 21;
+pub const HEAD_VALUES_BYTES: usize = 21;
 
-pub const STEP_1_PLACE: usize = 22;
+pub const LAG_A_PLACE: usize = 0;
 
-pub const LAG_B_PLACE: usize = 23;
+pub const STEP_1_PLACE: usize = 1;
 
-pub const STEP_3_PLACE: usize = 24;
+pub const LAG_B_PLACE: usize = 2;
 
-pub const BLOCKS_PLACE: usize = 25;
+pub const STEP_3_PLACE: usize = 3;
+
+pub const BLOCKS_PLACE: usize = 4;
 
 pub const BLOCK_HIGH_BYTES: usize = 16;
 

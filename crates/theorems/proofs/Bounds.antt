@@ -2,27 +2,27 @@
 use mathlib.Core.Path.{_≡_, refl}
 use mathlib.Core.Bool.{Bool, true, false, not, cond}
 use mathlib.Core.List.{List, _∷_}
-use Prim.Native.Nat.{ℕ, _≤_}
+use Prim.Native.Nat.{ℕ}
 use lib.Dec.{eqb}
 use lib.IntN.{ℤ}
 use lib.ListN.{length}
 use Rattle.integers.specs.Base.{up}
 use Rattle.integers.specs.Linear.{line}
-use Rattle.tables.specs.Constants.{frameSize, subframesPerFrame, lagBPlace, step3Place, lagCodeMax, stepCodeMax}
+use Rattle.tables.specs.Constants.{frameSize, subframesPerFrame}
 use Rattle.lpc.specs.Lpc.{frameCoefficients}
 use Rattle.excitation.specs.declared.Subframe.the-variants.{Two, Three}
 use Rattle.excitation.proofs.Bounds.{tap-sum-bounds, unvoiced-gain-most}
 use Rattle.excitation.specs.declared.Rate.{Rate}
-use Rattle.excitation.specs.declared.Rate.the-variants as rates
 use Rattle.noise.specs.Noise.{nextRun}
 use Rattle.voicing.specs.Voicing.{voicingOf}
-use Rattle.reader.specs.Fields.{byte}
-use Rattle.record.specs.Record.{blockOf}
+use Rattle.layout.specs.Layout.{fieldsOf}
+use Rattle.record.specs.Record.{candidates, blockOf}
 use Rattle.refusals.specs.Refusals.{found}
-use Rattle.theorems.proofs.Accepted.{codes-high, codes-low}
+use Rattle.refusals.proofs.Received.{received-passed}
+use Rattle.theorems.proofs.Accepted.{Codes, codes}
 use Rattle.numbers.specs.declared.Refusal.the-variants.{SampleLength, StateBounds}
 use Rattle.refusals.specs.declared.Found.{Found}
-use Rattle.refusals.specs.declared.Found.the-variants.{Erased, High, Low, Refused}
+use Rattle.refusals.specs.declared.Found.the-variants.{Erased, Received, Refused}
 use Rattle.state.specs.State.{lastLagBounded, lastBounded, inBounds}
 use Rattle.state.specs.declared.State.{State}
 use Rattle.state.proofs.Bounds as states
@@ -72,17 +72,18 @@ module _ (s : State) (h : inBounds s ≡ true) where
       (erased-words voicing (s .«last_taps_sum_q15») (s .«last_gain_unvoiced») (nextRun (s .«erased_run»)) (s .«exc_hist»))
       erased-last
 
-  module _ (rate : Rate) (r : List ℕ) (c : byte r lagBPlace ≤ lagCodeMax) (d : byte r step3Place ≤ stepCodeMax) where
-    received-last : LastIn (receivedLast s rate r)
+  module _ (rate : Rate) (f : List ℕ) (c : Codes f) where
+    received-last : LastIn (receivedLast s rate f)
     received-last =
-        let most = unvoiced-gain-most (blockOf rate r Two .«gain_index») (blockOf rate r Three .«gain_index») in
-        (lag-bounds rate r c d, (lag2-bounds rate r c, (tap-sum-bounds (blockOf rate r Three .taps), (omega line, tt))))
+        let most = unvoiced-gain-most (blockOf rate f Two .«gain_index») (blockOf rate f Three .«gain_index») in
+        let lag = lag-bounds rate f (c .lag-b) (c .step-b) in
+        (lag, (lag2-bounds rate f (c .lag-b), (tap-sum-bounds (blockOf rate f Three .taps), (omega line, tt))))
 
-    received-in : inBounds (receivedState s rate r) ≡ true
+    received-in : (candidates : List ℤ) → inBounds (receivedState s rate f candidates) ≡ true
     unfolding receivedState
-    received-in =
-        frame-in (receivedLsps s rate r) (receivedSignal s rate r) (receivedInputs s rate r) (receivedLast s rate r)
-        (received-words (blockOf rate r) (s .«exc_hist»)) received-last
+    received-in candidates =
+        frame-in (receivedLsps s candidates) (receivedSignal s rate f) (receivedInputs s rate f) (receivedLast s rate f)
+        (received-words (blockOf rate f) (s .«exc_hist»)) received-last
 
 -- ---- a record
 
@@ -91,8 +92,8 @@ module _ (s : State) (h : inBounds s ≡ true) (r : List ℕ) where
   unfolding answerTo
   found-in (Refused n) e = h
   found-in Erased e = erased-in s h
-  found-in High e = let c = codes-high r e in received-in s h rates.High r (c .lag-b) (c .step-b)
-  found-in Low e = let c = codes-low r e in received-in s h rates.Low r (c .lag-b) (c .step-b)
+  found-in (Received rate form) e =
+      let f = fieldsOf form r in received-in s h rate f (codes rate f (received-passed r rate form e)) (candidates r)
 
   -- by the tests of numbers 1 and 2
   tested-in : (a b : Bool) →

@@ -9,12 +9,15 @@ use lib.ListN.{length}
 use Rattle.tables.specs.Constants.{frameSize, lspMinimum}
 use Rattle.stability.specs.Stability.{checkOrPrevious}
 use Rattle.excitation.specs.Excitation.{inTurn}
+use Rattle.excitation.specs.declared.Subframe.{Subframe}
 use Rattle.excitation.specs.declared.Rate.{Rate}
-use Rattle.excitation.specs.declared.Rate.the-variants as rates
+use Rattle.layout.specs.Layout.{fieldsOf}
+use Rattle.layout.specs.declared.LspForm.{LspForm}
 use Rattle.record.specs.Record.{candidates, blockOf}
+use Rattle.record.specs.declared.Block.{Block}
 use Rattle.refusals.specs.Refusals.{found}
 use Rattle.refusals.specs.declared.Found.{Found}
-use Rattle.refusals.specs.declared.Found.the-variants.{Erased, High, Low, Refused}
+use Rattle.refusals.specs.declared.Found.the-variants.{Erased, Received, Refused}
 use Rattle.numbers.specs.declared.Refusal.{Refusal}
 use Rattle.numbers.specs.declared.Refusal.the-variants.{SampleLength, StateBounds}
 use Rattle.widths.specs.Widths.{frameSignal, historyAfter}
@@ -31,12 +34,14 @@ use Rattle.theorems.proofs.Examined.{examined-same}
 -- ---- one record
 
 module _ (s t : State) (k : SameKept s t) (r : List ℕ) where
-  kept-received : (rate : Rate) → SameKept (receivedState s rate r) (receivedState t rate r)
+  kept-received : (rate : Rate) (form : LspForm) → let f = fieldsOf form r in
+      SameKept (receivedState s rate f (candidates r)) (receivedState t rate f (candidates r))
   unfolding frameState receivedState
-  kept-received rate = record {
+  kept-received rate form = record {
     lsps = ap (checkOrPrevious (pos lspMinimum) (candidates r)) (k .lsps);
     history =
-        ap (λ (x : List ℤ). historyAfter (inTurn (λ y n. receivedTo (blockOf rate r n) y n) (frameSignal x))) (k .history);
+        let block : Subframe → Block = blockOf rate (fieldsOf form r) in
+        ap (λ (x : List ℤ). historyAfter (inTurn (λ y n. receivedTo (block n) y n) (frameSignal x))) (k .history);
     lag = refl;
     lag2 = refl;
     tapSum = refl;
@@ -47,8 +52,7 @@ module _ (s t : State) (k : SameKept s t) (r : List ℕ) where
   unfolding answerTo
   kept-to (Refused n) h = k
   kept-to Erased h = absurd (subst T h tt)
-  kept-to High h = kept-received rates.High
-  kept-to Low h = kept-received rates.Low
+  kept-to (Received rate form) h = kept-received rate form
 
 -- ---- what is found of it
 

@@ -12,16 +12,16 @@ use Rattle.record.specs.Record.{step, blockOf}
 use Rattle.state.specs.State.{lastLagBounded}
 use Rattle.state.proofs.Bounds.{Lies}
 
-module _ (rate : Rate) (r : List ℕ) (h : byte r lagBPlace ≤ lagCodeMax) where
+module _ (rate : Rate) (f : List ℕ) (h : byte f lagBPlace ≤ lagCodeMax) where
   -- of subframe 3: the step code is 0 to 3, which add -1 to 2
-  pub lag-bounds : byte r step3Place ≤ stepCodeMax → Lies (lastLagBounded (blockOf rate r Three .lag))
+  pub lag-bounds : byte f step3Place ≤ stepCodeMax → Lies (lastLagBounded (blockOf rate f Three .lag))
   unfolding blockOf
   lag-bounds k =
-      let base = pos (byte r lagBPlace + pitchMin) in
-      let code = byte r step3Place in
+      let base = pos (byte f lagBPlace + pitchMin) in
+      let code = byte f step3Place in
       omega (line, line-add base (step code), line-sub (pos code) (pos stepCodeZero))
 
   -- of subframe 2, which has no step
-  pub lag2-bounds : (pos pitchMin ≤ℤ blockOf rate r Two .lag) × (blockOf rate r Two .lag ≤ℤ pos lastBaseLagMax)
+  pub lag2-bounds : (pos pitchMin ≤ℤ blockOf rate f Two .lag) × (blockOf rate f Two .lag ≤ℤ pos lastBaseLagMax)
   unfolding blockOf
   lag2-bounds = omega line

@@ -6,7 +6,7 @@ use Prim.Native.Nat.{ℕ}
 use lib.IntN.{ℤ}
 use lib.ListN.{getD, drop}
 use Rattle.refusals.specs.declared.Found.{Found}
-use Rattle.refusals.specs.declared.Found.the-variants.{Erased, High, Low, Refused}
+use Rattle.refusals.specs.declared.Found.the-variants.{Erased, Received, Refused}
 use Rattle.state.specs.State.{isInBounds, areInBounds, lastLagBounded, boundedNumbers, inBounds}
 use Rattle.state.specs.declared.State.{State}
 use Rattle.state.proofs.Bounds.{isHistory, isMemory, numbers-of}
@@ -45,30 +45,26 @@ module _ (s : State) (l : ℤ) (r : List ℕ) where
   unfolding answerTo
   verdict-to (Refused n) = refl
   verdict-to Erased = refl
-  verdict-to High = refl
-  verdict-to Low = refl
+  verdict-to (Received rate form) = refl
 
   samples-to : (x : List ℤ) (f : Found) → samplesTo f (withLastLag l s) r x ≡ samplesTo f s r x
   unfolding samplesTo erasedSamples receivedSamples
   samples-to x (Refused n) = refl
   samples-to x Erased = refl
-  samples-to x High = refl
-  samples-to x Low = refl
+  samples-to x (Received rate form) = refl
 
   state-to :
       (f : Found) (m : ℤ) → withLastLag m (answerTo f (withLastLag l s) r .state) ≡ withLastLag m (answerTo f s r .state)
   unfolding answerTo frameState erasedState receivedState
   state-to (Refused n) m = refl
   state-to Erased m = refl
-  state-to High m = refl
-  state-to Low m = refl
+  state-to (Received rate form) m = refl
 
   test-to : (f : Found) → SameTest s l → SameTest (answerTo f s r .state) (answerTo f (withLastLag l s) r .state .«last_lag»)
   unfolding answerTo frameState erasedState receivedState
   test-to (Refused n) h = h
   test-to Erased h = h
-  test-to High h = refl
-  test-to Low h = refl
+  test-to (Received rate form) h = refl
 
 -- ---- one record
 

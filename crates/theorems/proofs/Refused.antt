@@ -8,7 +8,7 @@ use lib.IntN.{ℤ}
 use lib.ListN.{length}
 use Rattle.state.specs.declared.State.{State}
 use Rattle.refusals.specs.declared.Found.{Found}
-use Rattle.refusals.specs.declared.Found.the-variants.{Erased, High, Low, Refused}
+use Rattle.refusals.specs.declared.Found.the-variants.{Erased, Received, Refused}
 use Rattle.decoder.specs.Decoder.{examined, answerTo, samplesTo, samplesOf}
 use Rattle.theorems.specs.Call.{Item, next, isAccepted, accepted, after, acceptedSamples, acceptedOnly}
 use Rattle.theorems.specs.Refused.{RefusalKeeps, AcceptedAlone}
@@ -21,8 +21,7 @@ keeps :
 unfolding answerTo samplesTo
 keeps (Refused n) s r x h = (refl, refl)
 keeps Erased s r x h = absurd (subst T h tt)
-keeps High s r x h = absurd (subst T h tt)
-keeps Low s r x h = absurd (subst T h tt)
+keeps (Received rate form) s r x h = absurd (subst T h tt)
 
 pub refusal-keeps : RefusalKeeps
 refusal-keeps s i h = keeps (examined s (i .bytes) (i .samples)) s (i .bytes) (i .samples) h

@@ -4,7 +4,7 @@ use mathlib.Core.Bool.{Bool, true, false}
 use mathlib.Core.List.{List, [], _∷_}
 use Rattle.refusals.specs.Refusals.{found}
 use Rattle.refusals.specs.declared.Found.{Found}
-use Rattle.refusals.specs.declared.Found.the-variants.{Erased, High, Low, Refused}
+use Rattle.refusals.specs.declared.Found.the-variants.{Erased, Received, Refused}
 use Rattle.state.specs.State.{freshState, inBounds}
 use Rattle.state.specs.declared.State.{State}
 use Rattle.theorems.specs.Call.{Item, after}
@@ -20,8 +20,7 @@ pub record SameKept (s t : State) : Type 0 where
 
 abbrev pub isErased : Found → Bool
 isErased Erased = true
-isErased High = false
-isErased Low = false
+isErased (Received rate form) = false
 isErased (Refused n) = false
 
 -- no record is an erased one

@@ -5,14 +5,14 @@ use Prim.Native.Nat.{ℕ}
 use Rattle.pulses.specs.Pulses.{vector}
 use Rattle.vectors.specs.Vectors.{Accepted}
 use Rattle.excitation.specs.declared.Subframe.{Subframe}
-use Rattle.excitation.specs.declared.Rate.the-variants as rates
-use Rattle.record.specs.Record.{description}
+use Rattle.excitation.specs.declared.Rate.the-variants.{High}
+use Rattle.layout.specs.Layout.{fieldsOf}
+use Rattle.layout.specs.declared.LspForm.{LspForm}
+use Rattle.record.specs.Record.{description, blockOf}
 use Rattle.refusals.specs.Refusals.{found}
-use Rattle.refusals.specs.declared.Found.the-variants.{High}
-use Rattle.state.specs.declared.State.{State}
-use Rattle.decoder.specs.Frame.{block}
+use Rattle.refusals.specs.declared.Found.the-variants.{Received}
 
 abbrev pub AcceptedDescriptions : Type 0
 AcceptedDescriptions =
-    (s : State) (r : List ℕ) → found r ≡ High → (k : Subframe)
-    → Accepted (description r k) × (block s rates.High r k .fixed ≡ vector (description r k))
+    (r : List ℕ) (form : LspForm) → found r ≡ Received High form → (k : Subframe) → let d = description (fieldsOf form r) k in
+    Accepted d × (blockOf High (fieldsOf form r) k .fixed ≡ vector d)

@@ -14,7 +14,7 @@ use Rattle.counts.specs.Counts.{howMany, most, counted}
 use Rattle.refusals.specs.Refusals.{numberFound}
 use Rattle.decoder.specs.Decoder.{examined}
 use Rattle.refusals.specs.declared.Found.{Found}
-use Rattle.refusals.specs.declared.Found.the-variants.{Erased, High, Low, Refused}
+use Rattle.refusals.specs.declared.Found.the-variants.{Erased, Received, Refused}
 use Rattle.numbers.specs.declared.Refusal.the-variants.{SampleLength, StateBounds, NoByte, Kind, Length, LagCode, StepCode, GainIndex, Flags, Signs}
 use Rattle.state.specs.declared.State.{State}
 use Rattle.lines.specs.Replies.{lentSamples, numberFor, lineNumber, lineState, isRecordLine}
@@ -41,8 +41,7 @@ below (Refused GainIndex) = omega arith
 below (Refused Flags) = omega arith
 below (Refused Signs) = omega arith
 below Erased = omega arith
-below High = omega arith
-below Low = omega arith
+below (Received rate form) = omega arith
 
 number-below : (b : Bool) (bytes : List ℕ) (s : State) → numberFor b bytes s < numbersCounted
 unfolding numberFor

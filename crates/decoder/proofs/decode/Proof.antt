@@ -6,9 +6,10 @@ use Rattle.numbers.specs.declared.Refusal.the-variants.{SampleLength, StateBoun
 use Rattle.refusals.specs.declared.Found.{Found}
 use Rattle.state.specs.State.{inBounds}
 use Rattle.integers.specs.Truth.{not-true, not-false}
+use Rattle.decoder.specs.Frame.{receivedSamples, receivedState}
 use Rattle.decoder.specs.Decoder.{examined, acceptance}
 use Rattle.decoder.proofs.Answers.{length-refused, bounds-refused, record-found}
-use Rattle.decoder.proofs.Answers.{refused-promised, erased-promised, high-promised, low-promised}
+use Rattle.decoder.proofs.Answers.{refused-promised, erased-promised, received-promised}
 use Rattle.decoder.proofs.decode.Statement.{statement}
 use Rattle.decoder.proofs.decode.Tie as tie
 
@@ -78,23 +79,20 @@ decode-erased-requires c κs = let e = c .before .before .before in (whole e, so
 accepted-requires : tie.Need-accepted-requires
 accepted-requires c κs = tt
 
-enum-told-2 : tie.Need-enum-told-2
-enum-told-2 c = search needs
+enum-known-rate : tie.Need-enum-known-rate
+enum-known-rate c = search needs
+
+candidate-lsps-requires : tie.Need-candidate-lsps-requires
+candidate-lsps-requires c κs = tt
+
+fields-requires : tie.Need-fields-requires
+fields-requires c κs = tt
 
 decode-received-requires : tie.Need-decode-received-requires
-decode-received-requires c κs = let e = c .before .before .before in (whole e, sound e)
+decode-received-requires c κs = let e = c .before .before .before .before .before .before in (whole e, sound e)
 
 accepted-requires-2 : tie.Need-accepted-requires-2
 accepted-requires-2 c κs = tt
-
-enum-told-3 : tie.Need-enum-told-3
-enum-told-3 c = search needs
-
-decode-received-requires-2 : tie.Need-decode-received-requires-2
-decode-received-requires-2 c κs = let e = c .before .before .before in (whole e, sound e)
-
-accepted-requires-3 : tie.Need-accepted-requires-3
-accepted-requires-3 c κs = tt
 
 returns-3 : tie.Need-returns-3
 returns-3 c =
@@ -122,23 +120,17 @@ same-length-2 c = c .before .before .decode-received .kept .0
 returns-5 : tie.Need-returns-5
 returns-5 c =
     let d = c .before .before in
-    let t = d .before .before in
+    let f = d .before .before in
+    let l = f .before in
+    let t = l .before .before in
     let e = t .before .before in
     let a = start e .args in
-    high-promised (a .given) (a .«record» .now) (a .samples .now) (found-is e (t .enum-told2 .given .1))
-    (c .accepted2 .ensures ∙ ap acceptance (d .decode-received .ensures .0)) (d .decode-received .ensures .1)
-
-same-length-3 : tie.Need-same-length-3
-same-length-3 c = c .before .before .decode-received2 .kept .0
-
-returns-6 : tie.Need-returns-6
-returns-6 c =
-    let d = c .before .before in
-    let t = d .before .before in
-    let e = t .before .before in
-    let a = start e .args in
-    low-promised (a .given) (a .«record» .now) (a .samples .now) (found-is e (t .enum-told3 .given .1))
-    (c .accepted3 .ensures ∙ ap acceptance (d .decode-received2 .ensures .0)) (d .decode-received2 .ensures .1)
+    let rate = t .rate .given .0 .0 in
+    let form = t .rate .given .0 .1 .0 in
+    let r = d .decode-received .ensures in
+    received-promised (a .given) (a .«record» .now) (a .samples .now) rate form (found-is e (t .rate .given .1))
+    (c .accepted2 .ensures ∙ ap acceptance (r .0 ∙ (λ i. receivedState (a .given) rate (f .fields .ensures i) (l .candidate-lsps .ensures i))))
+    (r .1 ∙ (λ i. receivedSamples (a .given) rate (f .fields .ensures i) (l .candidate-lsps .ensures i)))
 
 pub decode-spec : {M : Type 1} → statement M
 decode-spec =
@@ -155,16 +147,13 @@ decode-spec =
     enum-told
     decode-erased-requires
     accepted-requires
-    enum-told-2
+    enum-known-rate
+    candidate-lsps-requires
+    fields-requires
     decode-received-requires
     accepted-requires-2
-    enum-told-3
-    decode-received-requires-2
-    accepted-requires-3
     returns-3
     same-length
     returns-4
     same-length-2
-    returns-5
-    same-length-3
-    returns-6)
+    returns-5)

@@ -6,16 +6,16 @@ use mir.Syntax.{w32}
 use mir.Val.{toZ, ofZ}
 use Rattle.integers.specs.Base.{entry}
 use Rattle.integers.specs.Signed.{back}
-use Rattle.stability.specs.Stability.{checkOrPrevious}
 use Rattle.excitation.specs.Excitation.{tapSum, unvoicedGain}
 use Rattle.excitation.specs.declared.Subframe.{Subframe}
 use Rattle.excitation.specs.declared.Subframe.the-variants.{Zero, One, Two, Three}
 use Rattle.layout.specs.Layout.{ordinal}
+use Rattle.record.specs.Record.{blockOf}
 use Rattle.record.specs.declared.Block.{Block}
 use Rattle.widths.specs.Widths.{frameSignal}
 use Rattle.state.specs.declared.State.{State}
 use Rattle.state.proofs.Bounds.{signal-narrowed}
-use Rattle.decoder.specs.Frame.{frameSamples, frameState, block, receivedTo}
+use Rattle.decoder.specs.Frame.{frameSamples, frameState, receivedTo}
 use Rattle.decoder.specs.Frame.{receivedLsps, receivedSignal, receivedInputs}
 use Rattle.decoder.specs.Frame.{receivedSamples, receivedState}
 use Rattle.decoder.proofs.Fields.{field-length}
@@ -26,7 +26,7 @@ use Rattle.decoder.proofs.decode_received.Tie as tie
 -- ---- from a call back to the one before
 
 abbrev start-of : tie.After-lsp-check-or-previous → tie.Start
-start-of c = c .before .before .before .before
+start-of c = c .before .before .before
 
 abbrev lsps-of : tie.After-read-block4 → tie.After-lsp-check-or-previous
 lsps-of c = c .before .before .before .before
@@ -43,25 +43,21 @@ signal-of c = c .before .before .before .before .before .before
 abbrev begin-of : tie.After-read-block4 → tie.Start
 begin-of c = start-of (lsps-of c)
 
--- ---- what each call answers, of the state and the record
+-- ---- what each call answers, of the state, the fields and the candidates
 
 module _ (s : tie.Start) where
   abbrev given : State
   given = s .args .given
 
-  abbrev bytes : List ℕ
-  bytes = s .args .«record» .now
+  abbrev fields : List ℕ
+  fields = s .args .fields .now
 
-  -- the record's block of a subframe
   abbrev blockAt : Subframe → Block
-  blockAt k = block given (s .args .rate) bytes k
+  blockAt k = blockOf (s .args .rate) fields k
 
 lsps-is : (c : tie.After-lsp-check-or-previous) → let s = start-of c in
-    c .lsp-check-or-previous .result ≡ receivedLsps (given s) (s .args .rate) (bytes s)
-lsps-is c =
-    let prev = given (start-of c) .«prev_lsp» in
-    let read = c .before .candidate-lsps .ensures in
-    c .lsp-check-or-previous .ensures ∙ ap (λ (l : List ℤ). checkOrPrevious (pos 256) l prev) read
+    c .lsp-check-or-previous .result ≡ receivedLsps (given s) (s .args .candidates)
+lsps-is c = c .lsp-check-or-previous .ensures
 
 module _ (c : tie.After-read-block4) where
   abbrev blockRead : Subframe → Block
@@ -83,7 +79,7 @@ silent-is c =
     c .frame-signal .ensures ∙ signal-narrowed (given s) size (s .pre .1)
 
 signal-is : (c : tie.After-received-subframe4) → let s = begin-of (blocks-of (silent-of c)) in
-    c .received-subframe4 .result ≡ receivedSignal (given s) (s .args .rate) (bytes s)
+    c .received-subframe4 .result ≡ receivedSignal (given s) (s .args .rate) (fields s)
 signal-is c =
     let x3 = c .before in
     let x2 = x3 .before in
@@ -124,16 +120,13 @@ module _ (c : tie.After-received-inputs) where
       let t = c .before .before in
       back w32 (t .struct-told4 .given .0 .1) (λ i. block-is blocks Three i .«base_lag»)
 
-  inputs-is : let s = begin-of blocks in c .received-inputs .result ≡ receivedInputs (given s) (s .args .rate) (bytes s)
+  inputs-is : let s = begin-of blocks in c .received-inputs .result ≡ receivedInputs (given s) (s .args .rate) (fields s)
   inputs-is =
       let s = begin-of blocks in
       let from : Subframe → ℤ = λ k. entry lags (ordinal k) in
       let to : Subframe → ℤ = λ k. blockAt s k .«base_lag» in
       c .received-inputs .ensures
       ∙ inputs-same (given s .postfilter) (s .args .rate) from to lag-is (signal-is (signal-of c))
-
-candidate-lsps-requires : tie.Need-candidate-lsps-requires
-candidate-lsps-requires c κs = tt
 
 lsp-check-or-previous-requires : tie.Need-lsp-check-or-previous-requires
 lsp-check-or-previous-requires c κs = tt
@@ -210,7 +203,6 @@ pub decode-received-spec : {M : Type 1} → statement M
 decode-received-spec =
     tie.close
     (tie.spec
-    candidate-lsps-requires
     lsp-check-or-previous-requires
     read-block-requires
     read-block-requires-2

@@ -48,10 +48,10 @@ module _ (c : tie.At-match2-came) where
       (⊎-elim (λ w. w .2 ∙ sym (ap ordinal (w .1 .given .1))) (λ w. w .2 ∙ sym (ap ordinal (w .1 .given .1)))))
       (c .match2 .came)
 
-  place-is : 25 + c .match2 .ordinal * c .before .match .size ≡ blockPlace rate s
-  place-is = λ i. 25 + ordinal-is i * size-is i
+  place-is : 4 + c .match2 .ordinal * c .before .match .size ≡ blockPlace rate s
+  place-is = λ i. 4 + ordinal-is i * size-is i
 
-  place-small : 25 + c .match2 .ordinal * c .before .match .size ≤ 418
+  place-small : 4 + c .match2 .ordinal * c .before .match .size ≤ 397
   place-small = omega (arith, place-is, block-place-bound rate s)
 
 mul-result : tie.Need-mul-result

@@ -23,7 +23,7 @@ add-result c = omega arith
 returns : tie.Need-returns
 returns c =
     let s = c .before .before .before in
-    λ i. (c .byte-field .ensures ∙ (λ j. byte (s .args .«record» .now) (c .before .lag-place .ensures j))) i + 18
+    λ i. (c .byte-field .ensures ∙ (λ j. byte (s .args .fields .now) (c .before .lag-place .ensures j))) i + 18
 
 pub base-lag-spec : {M : Type 1} → statement M
 base-lag-spec =

@@ -25,7 +25,7 @@ enum-told-2 c = search needs
 block-place-requires : tie.Need-block-place-requires
 block-place-requires c κs = tt
 
-place-small : (c : tie.After-block-place) → c .block-place .result ≤ 418
+place-small : (c : tie.After-block-place) → c .block-place .result ≤ 397
 place-small c = omega (arith, c .block-place .ensures, block-place-bound Low (c .before .before .before .before .args .s))
 
 add-values-at : tie.Need-add-values-at
@@ -39,14 +39,14 @@ returns c =
     let m = c .before .before in
     let a = m .before .before .before .args in
     c .mpmlq-fixed-vector .ensures ∙ ap vector (c .before .pulse-description .ensures)
-    ∙ sym (ap (λ (k : Rate). fixed k (a .«record» .now) (a .s)) (m .enum-told .given .1))
+    ∙ sym (ap (λ (k : Rate). fixed k (a .fields .now) (a .s)) (m .enum-told .given .1))
 
 returns-2 : tie.Need-returns-2
 returns-2 c =
     let m = c .before .before in
     let a = m .before .before .before .args in
-    c .values-at .ensures ∙ (λ i. words (a .«record» .now) (c .before .block-place .ensures i + 11) 60)
-    ∙ sym (ap (λ (k : Rate). fixed k (a .«record» .now) (a .s)) (m .enum-told2 .given .1))
+    c .values-at .ensures ∙ (λ i. words (a .fields .now) (c .before .block-place .ensures i + 11) 60)
+    ∙ sym (ap (λ (k : Rate). fixed k (a .fields .now) (a .s)) (m .enum-told2 .given .1))
 
 pub fixed-vector-spec : {M : Type 1} → statement M
 fixed-vector-spec =

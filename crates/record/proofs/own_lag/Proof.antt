@@ -11,7 +11,7 @@ use mir.Val.{SFits, toZ, ofZ}
 use Rattle.integers.specs.Base.{Is, Within}
 use Rattle.integers.specs.Bound.{within-add, within-sub, within-num, fits-within}
 use Rattle.integers.specs.Expression.{is-mag, is-lit, is-sub, is-add, need-sub, need-add}
-use Rattle.tables.specs.Constants.{stepCodeZero}
+use Rattle.tables.specs.Constants.{stepCodeZero, step1Place, step3Place}
 use Rattle.excitation.specs.declared.Subframe.{Subframe}
 use Rattle.excitation.specs.declared.Subframe.the-variants.{Zero, One, Two, Three}
 use Rattle.reader.specs.Fields.{byte}
@@ -22,9 +22,9 @@ use Rattle.record.proofs.own_lag.Tie as tie
 -- the step code of a subframe; that of an even one adds nothing
 abbrev stepCode : List ℕ → Subframe → ℕ
 stepCode r Zero = stepCodeZero
-stepCode r One = byte r 22
+stepCode r One = byte r step1Place
 stepCode r Two = stepCodeZero
-stepCode r Three = byte r 24
+stepCode r Three = byte r step3Place
 
 lag-is : (r : List ℕ) (s : Subframe) → pos (baseLag r s) +ℤ step (stepCode r s) ≡ lag r s
 lag-is r Zero = ap pos (add-zero (baseLag r Zero))
@@ -56,7 +56,7 @@ byte-field-requires-2 c κs = tt
 -- the base lag and the step, as they are read
 module _ (c : tie.At-match-came) where
   abbrev r : List ℕ
-  r = c .before .before .before .args .«record» .now
+  r = c .before .before .before .args .fields .now
 
   abbrev s : Subframe
   s = c .before .before .before .args .s

@@ -14,7 +14,7 @@ use Rattle.record.proofs.pulse_description.Tie as tie
 block-place-requires : tie.Need-block-place-requires
 block-place-requires c κs = tt
 
-place-small : (c : tie.After-block-place) → c .block-place .result ≤ 418
+place-small : (c : tie.After-block-place) → c .block-place .result ≤ 397
 place-small c = omega (arith, c .block-place .ensures, block-place-bound High (c .before .before .args .s))
 
 add-byte-field : tie.Need-add-byte-field
@@ -55,7 +55,7 @@ returns c =
     let g = c .before .before .before in
     let f = g .before .before in
     let a = f .before .before .before .args in
-    let r = a .«record» .now in
+    let r = a .fields .now in
     let p = f .before .block-place .ensures in
     let flags : f .byte-field .result ≡ byte r (blockPlace High (a .s) + flagsPlace) = f .byte-field .ensures ∙ (λ i. byte r (p i + flagsPlace)) in
     let code = c .before .before .code-field .ensures in

@@ -19,7 +19,7 @@ base-lag-requires c κs = tt
 own-lag-requires : tie.Need-own-lag-requires
 own-lag-requires c κs = tt
 
-place-small : (c : tie.After-block-place) → c .block-place .result ≤ 418
+place-small : (c : tie.After-block-place) → c .block-place .result ≤ 397
 place-small c = let a = c .before .before .args in omega (arith, c .block-place .ensures, block-place-bound (a .rate) (a .s))
 
 taps-at-requires : tie.Need-taps-at-requires
@@ -43,7 +43,7 @@ returns c =
     let t = c .before .before in
     let b = t .before .before in
     let p = b .before .block-place in
-    let r = b .before .before .before .args .«record» .now in
+    let r = b .before .before .before .args .fields .now in
     λ i.
     record {
       «base_lag» = back w32 {r = pos (b .base-lag .result)} (omega arith) (ap pos (b .base-lag .ensures)) i;

@@ -1,65 +1,25 @@
 use mathlib.Core.Path.{_≡_, refl, sym, ap, subst, _∙_}
-use mathlib.Core.Bool.{Bool, true, false, cond, not}
+use mathlib.Core.Bool.{cond, not}
 use mathlib.Core.List.{List}
-use Prim.Native.Nat.{ℕ, zero, suc, _≤_}
-use native.Mathlib.Omega.{arith}
-use borrow.Author.Tests.{lt-ltb, le-ltb, ltb-false, eq-eqb, ne-eqb}
+use Prim.Native.Nat.{ℕ}
+use borrow.Author.Tests.{lt-ltb, le-ltb, eq-eqb, ne-eqb}
 use lib.Dec.{ltb, eqb}
 use lib.ListN.{length}
 use Rattle.tables.specs.Constants.{kindMax}
-use Rattle.excitation.specs.declared.Rate.{Rate}
-use Rattle.excitation.specs.declared.Rate.the-variants as rates
 use Rattle.reader.specs.Fields.{byte}
-use Rattle.numbers.specs.declared.Refusal.{Refusal}
-use Rattle.numbers.specs.declared.Refusal.the-variants.{NoByte, Kind, Length, LagCode, StepCode, GainIndex, Flags, Signs}
+use Rattle.numbers.specs.declared.Refusal.the-variants.{NoByte, Kind, Length}
 use Rattle.refusals.specs.declared.Found.{Found}
-use Rattle.refusals.specs.declared.Found.the-variants.{High, Low, Refused}
-use Rattle.refusals.specs.Refusals.{noByte, wrongKind, wrongLength, wrongLagCode, wrongStepCode, wrongGainIndex, wrongFlags, wrongSigns}
-use Rattle.refusals.specs.Refusals.{recordBytes, foundHigh, foundReceived, foundOf, found, numberFound, IsKind, recordNumber}
+use Rattle.refusals.specs.declared.Found.the-variants.{Refused}
+use Rattle.refusals.specs.Refusals.{wrongLength, recordBytes, foundOf, found, numberFound, IsKind, recordNumber}
 use Rattle.integers.specs.Truth.{cond-here, cond-there}
 use Rattle.refusals.proofs.Arms.{from-two}
+use Rattle.refusals.proofs.Received.{kind-found}
 use Rattle.refusals.proofs.examine.Statement.{statement}
 use Rattle.refusals.proofs.examine.Tie as tie
 
--- ---- what is found says its number and goes with the kind byte
-
--- a refusal goes with any kind, and where the test fails the rest has to
-refusing : (b : Bool) (n : Refusal) (rest : Found) (kind : ℕ) → (b ≡ false → IsKind rest kind) → IsKind (cond b (Refused n) rest) kind
-refusing true n rest kind h = tt
-refusing false n rest kind h = h refl
-
-module _ (s : List ℕ) where
-  kind-high : IsKind (foundHigh s) 1
-  unfolding foundHigh
-  kind-high =
-      refusing (wrongFlags s) Flags (cond (wrongSigns s) (Refused Signs) High) 1 (λ _.
-      refusing (wrongSigns s) Signs High 1 (λ _. refl))
-
-  kind-received : (rate : Rate) (rest : Found) (kind : ℕ) → IsKind rest kind → IsKind (foundReceived rate s rest) kind
-  unfolding foundReceived
-  kind-received rate rest kind h =
-      let gains = cond (wrongGainIndex rate s) (Refused GainIndex) rest in
-      refusing (wrongLagCode s) LagCode (cond (wrongStepCode s) (Refused StepCode) gains) kind (λ _.
-      refusing (wrongStepCode s) StepCode gains kind (λ _. refusing (wrongGainIndex rate s) GainIndex rest kind (λ _. h)))
-
-  kind-of : (kind : ℕ) → kind ≤ kindMax → IsKind (foundOf kind s) kind
-  unfolding foundOf
-  kind-of zero h = refl
-  kind-of (suc zero) h = kind-received rates.High (foundHigh s) 1 kind-high
-  kind-of (suc (suc n)) h = kind-received rates.Low Low (suc (suc n)) (omega arith)
-
-  kind-found : IsKind (found s) (byte s 0)
-  unfolding found
-  kind-found =
-      let kind = byte s 0 in
-      let lengths = cond (wrongLength s) (Refused Length) (foundOf kind s) in
-      refusing (noByte s) NoByte (cond (wrongKind s) (Refused Kind) lengths) kind (λ _.
-      refusing (wrongKind s) Kind lengths kind (λ low.
-      refusing (wrongLength s) Length (foundOf kind s) kind (λ _. kind-of kind (ltb-false kindMax kind low))))
-
-  -- all that `examine` promises follows from what is found
-  promised : {x : Found} → x ≡ found s → (x ≡ found s) × ((numberFound x ≡ recordNumber s) × IsKind x (byte s 0))
-  promised e = (e, (ap numberFound e, subst (λ (f : Found). IsKind f (byte s 0)) (sym e) kind-found))
+-- all that `examine` promises follows from what is found
+promised : (s : List ℕ) {x : Found} → x ≡ found s → (x ≡ found s) × ((numberFound x ≡ recordNumber s) × IsKind x (byte s 0))
+promised s e = (e, (ap numberFound e, subst (λ (f : Found). IsKind f (byte s 0)) (sym e) (kind-found s)))
 
 -- ---- the ways out
 
@@ -122,14 +82,11 @@ of-kind c e =
     ap (λ (m : ℕ). foundOf m (r k)) (sym e ∙ k .byte-field .ensures)
     ∙ past-kind (b .before) (cond-there _ (length-test b) (ap not h) refl)
 
-high-found-requires : tie.Need-high-found-requires
-high-found-requires c κs = tt
+record-found-requires : tie.Need-record-found-requires
+record-found-requires c κs = tt
 
-received-found-requires : tie.Need-received-found-requires
-received-found-requires c κs = tt
-
-received-found-requires-2 : tie.Need-received-found-requires-2
-received-found-requires-2 c κs = tt
+record-found-requires-2 : tie.Need-record-found-requires-2
+record-found-requires-2 c κs = tt
 
 returns-4 : tie.Need-returns-4
 unfolding foundOf
@@ -138,18 +95,16 @@ returns-4 c = promised (r (c .before .before .before .before)) (of-kind (c .befo
 returns-5 : tie.Need-returns-5
 unfolding foundOf
 returns-5 c =
-    let m = c .before .before in
-    let k = m .before .before .before .before in
-    promised (r k) (c .received-found .ensures ∙ ap (foundReceived rates.High (r k)) (c .before .high-found .ensures)
-    ∙ of-kind (m .before) (m .match .keys2))
+    let m = c .before in
+    promised (r (m .before .before .before .before)) (c .record-found .ensures ∙ of-kind (m .before) (m .match .keys2))
 
 returns-6 : tie.Need-returns-6
 unfolding foundOf
 returns-6 c =
     let m = c .before in
     let k = m .before .before .before .before in
-    promised (r k) (c .received-found2 .ensures
-    ∙ of-kind (m .before) (from-two (k .byte-field .result) (m .match .rest .0 .1) (m .match .rest .1) .1))
+    let last = from-two (k .byte-field .result) (m .match .rest .0 .1) (m .match .rest .1) .1 in
+    promised (r k) (c .record-found2 .ensures ∙ of-kind (m .before) last)
 
 pub examine-spec : {M : Type 1} → statement M
 examine-spec =
@@ -160,9 +115,8 @@ examine-spec =
     returns-2
     record-bytes-requires
     returns-3
-    high-found-requires
-    received-found-requires
-    received-found-requires-2
+    record-found-requires
+    record-found-requires-2
     returns-4
     returns-5
     returns-6)

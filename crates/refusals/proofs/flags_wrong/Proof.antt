@@ -27,7 +27,7 @@ byte-field-requires : tie.Need-byte-field-requires
 byte-field-requires c κs = tt
 
 abbrev r : tie.After-byte-field → List ℕ
-r c = c .before .before .before .args .«record» .now
+r c = c .before .before .before .args .fields .now
 
 read : (c : tie.After-byte-field) → c .byte-field .result ≡ flags (r c) (c .before .before .before .args .s)
 read c = c .byte-field .ensures ∙ ap (λ (n : ℕ). byte (r c) (n + 11)) (c .before .block-place .ensures)

@@ -19,7 +19,7 @@ byte-field-requires c κs = tt
 
 returns : tie.Need-returns
 returns c =
-    let r = c .before .before .before .args .«record» .now in
+    let r = c .before .before .before .args .fields .now in
     ap (ltb gainIndexMax) (c .byte-field .ensures ∙ ap (λ (n : ℕ). byte r (n + 10)) (c .before .block-place .ensures))
 
 pub gain-above-spec : {M : Type 1} → statement M

@@ -38,7 +38,7 @@ enum-told-4 c = search needs
 -- the test in the subframe that a match tells
 module _ (c : tie.After-byte-field) where
   abbrev r : List ℕ
-  r = c .before .before .before .args .«record» .now
+  r = c .before .before .before .args .fields .now
 
   abbrev s : Subframe
   s = c .before .before .before .args .s
