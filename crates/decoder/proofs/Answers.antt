@@ -10,7 +10,6 @@ use lib.IntN.{ℤ}
 use Rattle.excitation.specs.declared.Rate.{Rate}
 use Rattle.layout.specs.Layout.{fieldsOf}
 use Rattle.layout.specs.declared.LspForm.{LspForm}
-use Rattle.record.specs.Record.{candidates}
 use Rattle.numbers.specs.Numbers.{numberOf}
 use Rattle.refusals.specs.Refusals.{found, numberFound}
 use Rattle.numbers.specs.declared.Refusal.{Refusal}
@@ -19,7 +18,7 @@ use Rattle.refusals.specs.declared.Found.{Found}
 use Rattle.refusals.specs.declared.Found.the-variants.{Erased, Received, Refused}
 use Rattle.state.specs.State.{inBounds}
 use Rattle.state.specs.declared.State.{State}
-use Rattle.decoder.specs.Frame.{erasedSamples, erasedState, receivedSamples, receivedState}
+use Rattle.decoder.specs.Frame.{candidatesOf, erasedSamples, erasedState, receivedSamples, receivedState}
 use Rattle.decoder.specs.Decoder.{examined, refusal, acceptance, answerTo, samplesTo, answerOf, firstNumber, samplesOf}
 use Rattle.decoder.specs.declared.Answer.{Answer}
 
@@ -74,8 +73,11 @@ module _ (s : State) (r : List ℕ) (samples : List ℤ) where
   unfolding answerTo samplesTo
   erased-promised e p q = promised Erased e p q
 
+  abbrev read : LspForm → List ℤ
+  read form = candidatesOf form r (s .«prev_lsp»)
+
   pub received-promised : (rate : Rate) (form : LspForm) → examined s r samples ≡ Received rate form → {a : Answer} {o : List ℤ} →
-      a ≡ acceptance (receivedState s rate (fieldsOf form r) (candidates r)) →
-      o ≡ receivedSamples s rate (fieldsOf form r) (candidates r) → Promised a o
+      a ≡ acceptance (receivedState s rate (fieldsOf form r) (read form)) →
+      o ≡ receivedSamples s rate (fieldsOf form r) (read form) → Promised a o
   unfolding answerTo samplesTo
   received-promised rate form e p q = promised (Received rate form) e p q

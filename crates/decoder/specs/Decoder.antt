@@ -7,7 +7,6 @@ use lib.IntN.{ℤ}
 use lib.ListN.{length}
 use Rattle.tables.specs.Constants.{frameSize}
 use Rattle.layout.specs.Layout.{fieldsOf}
-use Rattle.record.specs.Record.{candidates}
 use Rattle.refusals.specs.Refusals.{found, numberFound}
 use Rattle.numbers.specs.declared.Refusal.{Refusal}
 use Rattle.numbers.specs.declared.Refusal.the-variants.{SampleLength, StateBounds}
@@ -16,7 +15,7 @@ use Rattle.refusals.specs.declared.Found.the-variants.{Erased, Received, Refuse
 use Rattle.numbers.specs.declared.Verdict.the-variants as verdicts
 use Rattle.state.specs.State.{inBounds}
 use Rattle.state.specs.declared.State.{State}
-use Rattle.decoder.specs.Frame.{erasedSamples, erasedState, receivedSamples, receivedState}
+use Rattle.decoder.specs.Frame.{candidatesOf, erasedSamples, erasedState, receivedSamples, receivedState}
 use Rattle.decoder.specs.declared.Answer.{Answer}
 
 -- ---- the first number that applies, or what the record is
@@ -39,13 +38,13 @@ acceptance next = record { verdict = verdicts.Accepted; state = next }
 unfoldable pub answerTo : Found → State → List ℕ → Answer
 answerTo (Refused n) s r = refusal s n
 answerTo Erased s r = acceptance (erasedState s)
-answerTo (Received rate form) s r = acceptance (receivedState s rate (fieldsOf form r) (candidates r))
+answerTo (Received rate form) s r = acceptance (receivedState s rate (fieldsOf form r) (candidatesOf form r (s .«prev_lsp»)))
 
 -- the samples: a refusal changes none
 unfoldable pub samplesTo : Found → State → List ℕ → List ℤ → List ℤ
 samplesTo (Refused n) s r samples = samples
 samplesTo Erased s r samples = erasedSamples s
-samplesTo (Received rate form) s r samples = receivedSamples s rate (fieldsOf form r) (candidates r)
+samplesTo (Received rate form) s r samples = receivedSamples s rate (fieldsOf form r) (candidatesOf form r (s .«prev_lsp»))
 
 -- ---- what `decode` promises: its answer, the number of its verdict, and the samples at exit
 

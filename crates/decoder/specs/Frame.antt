@@ -1,13 +1,13 @@
--- A frame (document 01, "Adaptive part", "Erasure" and "Frame"; the Rust's decode_params from lsp_check_or_previous on, and decode_erased): LSPs, the excitation of four subframes, then their samples (crate output).
+-- A frame (document 01, "Adaptive part", "Erasure" and "Frame"; document 02, E1; the Rust's decode_params from its LSPs on, and decode_erased): LSPs, the excitation of four subframes, then their samples (crate output).
 use mathlib.Core.Bool.{cond}
 use mathlib.Core.List.{List, [], _∷_}
 use Prim.Native.Nat.{ℕ, _-_}
 use lib.IntN.{ℤ, pos}
 use lib.ListN.{drop}
 use Rattle.integers.specs.Base.{up}
-use Rattle.tables.specs.Constants.{frameSize, classifierHistory, lspMinimum, lspMinimumErased}
+use Rattle.tables.specs.Constants.{frameSize, classifierHistory, lspMinimum, lspMinimumErased, band0Place, band1Place, band2Place}
 use Rattle.stability.specs.Stability.{checkOrPrevious}
-use Rattle.lsp.specs.Lsps.{extrapolated}
+use Rattle.lsp.specs.Lsps.{decoded, extrapolated}
 use Rattle.lpc.specs.Lpc.{frameCoefficients}
 use Rattle.excitation.specs.Excitation.{subframePlace, withSubframe, inTurn, limitedSum, tapSum, unvoicedGain}
 use Rattle.excitation.specs.declared.Subframe.{Subframe}
@@ -20,7 +20,10 @@ use Rattle.output.specs.declared.Filters.{Filters}
 use Rattle.voicing.specs.Voicing.{voicingOf}
 use Rattle.noise.specs.Noise.{nextRun}
 use Rattle.erasure.specs.Erasure.{erasedExcitation}
-use Rattle.record.specs.Record.{blockOf}
+use Rattle.reader.specs.Fields.{byte}
+use Rattle.layout.specs.declared.LspForm.{LspForm}
+use Rattle.layout.specs.declared.LspForm.the-variants.{Values, Index}
+use Rattle.record.specs.Record.{candidates, blockOf}
 use Rattle.record.specs.declared.Block.{Block}
 use Rattle.widths.specs.Widths.{frameSignal, historyAfter}
 use Rattle.state.specs.declared.State.{State}
@@ -102,6 +105,12 @@ module _ (s : State) where
 
 -- ---- a received frame (decode_params), of candidate LSPs and the record's fields f after its head
 
+-- the candidates of a record r: its ten values, or those of its index, which go by the previous LSPs
+abbrev pub candidatesOf : LspForm → List ℕ → List ℤ → List ℤ
+candidatesOf Values r previous = candidates r
+candidatesOf Index r previous = decoded (byte r band0Place) (byte r band1Place) (byte r band2Place) previous
+
+-- stabilised, or the previous LSPs
 abbrev pub receivedLsps : State → List ℤ → List ℤ
 receivedLsps s candidates = checkOrPrevious (pos lspMinimum) candidates (s .«prev_lsp»)
 

@@ -6,10 +6,11 @@ ghost use Rattle.integers.specs.Base.{entry};
 ghost use Rattle.layout.specs.Layout.{ordinal};
 ghost use Rattle.numbers.specs.Numbers.{numberOf};
 ghost use Rattle.state.specs.State.{inBounds};
-ghost use Rattle.decoder.specs.Frame.{plainInputs, pitchInputs, receivedTo, frameSamples, frameState, erasedSamples, erasedState, receivedSamples, receivedState};
+ghost use Rattle.decoder.specs.Frame.{plainInputs, pitchInputs, candidatesOf, receivedTo, frameSamples, frameState, erasedSamples, erasedState, receivedSamples, receivedState};
 ghost use Rattle.decoder.specs.Decoder.{refusal, acceptance, answerOf, firstNumber, samplesOf};
 use excitation::Rate;
 use excitation::Subframe;
+use layout::LspForm;
 use numbers::Refusal;
 use numbers::Verdict;
 use output::Filters;
@@ -161,6 +162,21 @@ fn decode_erased(samples: &mut [i16], given: State) -> State
     finish_frame(samples, given, lsps, signal, inputs, last)
 }
 
+// Candidate LSPs: the record's own, or those of its index.
+fn candidates_of(record: &[u8], form: LspForm, prev: [i16; 10]) -> [i16; 10]
+    ensures { λ r. ⌜ r ≡ candidatesOf form (now («record» .entry)) prev ⌝ }
+{
+    match form {
+        LspForm::Values => record::candidate_lsps(record),
+        LspForm::Index => lsp::lsp_decode(
+            reader::byte_field(record, tables::BAND_0_PLACE),
+            reader::byte_field(record, tables::BAND_1_PLACE),
+            reader::byte_field(record, tables::BAND_2_PLACE),
+            prev,
+        ),
+    }
+}
+
 // The Rust's decode_params, from lsp_check_or_previous on.
 fn decode_received(
     samples: &mut [i16],
@@ -236,7 +252,8 @@ pub fn decode(given: State, record: &[u8], samples: &mut [i16]) -> Answer
             accepted(next)
         }
         Found::Received(rate, form) => {
-            let candidates = record::candidate_lsps(record);
+            let prev = given.prev_lsp;
+            let candidates = candidates_of(record, form, prev);
             let fields = layout::fields(record, form);
             let next = decode_received(samples, given, rate, fields, candidates);
             accepted(next)

@@ -1,18 +1,19 @@
--- Where the fields of a record stand (document 01, "The record").
+-- Where the fields of a record stand (document 01, "The record"; document 02, E1).
 use mathlib.Core.List.{List}
 use Prim.Native.Nat.{ℕ, _+_, _*_}
 use lib.ListN.{drop}
-use Rattle.tables.specs.Constants.{headValuesBytes, lagAPlace, lagBPlace, blocksPlace, blockHighBytes, blockLowBytes}
+use Rattle.tables.specs.Constants.{headValuesBytes, headIndexBytes, lagAPlace, lagBPlace, blocksPlace, blockHighBytes, blockLowBytes}
 use Rattle.excitation.specs.declared.Subframe.{Subframe}
 use Rattle.excitation.specs.declared.Subframe.the-variants.{Zero, One, Two, Three}
 use Rattle.excitation.specs.declared.Rate.{Rate}
 use Rattle.excitation.specs.declared.Rate.the-variants.{High, Low}
 use Rattle.layout.specs.declared.LspForm.{LspForm}
-use Rattle.layout.specs.declared.LspForm.the-variants.{Values}
+use Rattle.layout.specs.declared.LspForm.the-variants.{Values, Index}
 
--- the bytes of a record's head: its kind and its LSPs
+-- the bytes of a record's head: its kind, and its LSPs or their index
 abbrev pub headBytes : LspForm → ℕ
 headBytes Values = headValuesBytes
+headBytes Index = headIndexBytes
 
 -- the fields after the head; the places below count from their first byte
 abbrev pub fieldsOf : LspForm → List ℕ → List ℕ

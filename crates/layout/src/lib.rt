@@ -4,9 +4,10 @@ ghost use Rattle.layout.specs.Layout.{headBytes, fieldsOf, lagPlace, blo
 use excitation::Rate;
 use excitation::Subframe;
 
-// How a record gives its candidate LSPs: as ten values.
+// How a record gives its candidate LSPs: as ten values, or by an index of three bytes.
 pub enum LspForm {
     Values,
+    Index,
 }
 
 fn head_bytes(form: LspForm) -> usize
@@ -14,6 +15,7 @@ fn head_bytes(form: LspForm) -> usize
 {
     match form {
         LspForm::Values => tables::HEAD_VALUES_BYTES,
+        LspForm::Index => tables::HEAD_INDEX_BYTES,
     }
 }
 

@@ -11,7 +11,7 @@ use Rattle.excitation.specs.declared.Rate.the-variants.{High, Low}
 use Rattle.reader.specs.Fields.{byte}
 use Rattle.layout.specs.Layout.{fieldsOf}
 use Rattle.layout.specs.declared.LspForm.{LspForm}
-use Rattle.layout.specs.declared.LspForm.the-variants.{Values}
+use Rattle.layout.specs.declared.LspForm.the-variants.{Values, Index}
 use Rattle.numbers.specs.declared.Refusal.{Refusal}
 use Rattle.refusals.specs.declared.Found.{Found}
 use Rattle.refusals.specs.declared.Found.the-variants.{Erased, Received, Refused}
@@ -54,7 +54,9 @@ module _ (r : List ℕ) where
   unfolding foundOf
   with-kind zero e h = record { kind = e; passed = tt }
   with-kind (suc zero) e h = with-received High Values e
-  with-kind (suc (suc n)) e h = with-received Low Values (omega (arith, e, h))
+  with-kind (suc (suc zero)) e h = with-received Low Values e
+  with-kind (suc (suc (suc zero))) e h = with-received High Index e
+  with-kind (suc (suc (suc (suc n)))) e h = with-received Low Index (omega (arith, e, h))
 
   with-found : With (found r)
   unfolding found

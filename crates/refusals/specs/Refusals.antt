@@ -1,12 +1,12 @@
--- Which of the numbers 3 to 10 a record gets (document 01, "The ten numbers, tested in this order"). r is the record's bytes and f its fields after the head.
+-- Which of the numbers 3 to 10 a record gets (document 01, "The ten numbers, tested in this order"; document 02, E1). r is the record's bytes and f its fields after the head.
 use mathlib.Core.Path.{_≡_}
 use mathlib.Core.Bool.{Bool, false, cond, not, _&&_, _||_}
 use mathlib.Core.List.{List}
 use Prim.Native.Nat.{ℕ, zero, suc, _^_}
 use lib.Dec.{ltb, leb, eqb}
 use lib.ListN.{length}
-use Rattle.tables.specs.Constants.{kindMax, recordErasedBytes, recordHighBytes, recordLowBytes, lagAPlace, lagBPlace, step1Place, step3Place}
-use Rattle.tables.specs.Constants.{lagCodeMax, stepCodeMax, gainIndexMax, flagsMax, trainLagLimit}
+use Rattle.tables.specs.Constants.{kindMax, recordErasedBytes, recordHighBytes, recordLowBytes, recordHighIndexBytes, recordLowIndexBytes}
+use Rattle.tables.specs.Constants.{lagAPlace, lagBPlace, step1Place, step3Place, lagCodeMax, stepCodeMax, gainIndexMax, flagsMax, trainLagLimit}
 use Rattle.positions.specs.Positions.{pulses}
 use Rattle.excitation.specs.declared.Subframe.{Subframe}
 use Rattle.excitation.specs.declared.Subframe.the-variants.{Zero, One, Two, Three}
@@ -15,7 +15,7 @@ use Rattle.excitation.specs.declared.Rate.the-variants.{High, Low}
 use Rattle.reader.specs.Fields.{byte}
 use Rattle.layout.specs.Layout.{fieldsOf}
 use Rattle.layout.specs.declared.LspForm.{LspForm}
-use Rattle.layout.specs.declared.LspForm.the-variants.{Values}
+use Rattle.layout.specs.declared.LspForm.the-variants.{Values, Index}
 use Rattle.record.specs.Record.{baseLag, gainIndex, flags, train, signs, count}
 use Rattle.numbers.specs.Numbers.{number}
 use Rattle.numbers.specs.declared.Refusal.the-variants.{NoByte, Kind, Length, LagCode, StepCode, GainIndex, Flags, Signs}
@@ -28,7 +28,7 @@ use Rattle.refusals.specs.declared.Found.the-variants.{Erased, Received,
 abbrev pub noByte : List ℕ → Bool
 noByte r = eqb (length r) 0
 
--- 4: the kind, byte 0, is above 2
+-- 4: the kind, byte 0, is above 4
 abbrev pub wrongKind : List ℕ → Bool
 wrongKind r = ltb kindMax (byte r 0)
 
@@ -36,7 +36,9 @@ wrongKind r = ltb kindMax (byte r 0)
 abbrev pub recordBytes : ℕ → ℕ
 recordBytes zero = recordErasedBytes
 recordBytes (suc zero) = recordHighBytes
-recordBytes (suc (suc n)) = recordLowBytes
+recordBytes (suc (suc zero)) = recordLowBytes
+recordBytes (suc (suc (suc zero))) = recordHighIndexBytes
+recordBytes (suc (suc (suc (suc n)))) = recordLowIndexBytes
 
 abbrev pub wrongLength : List ℕ → Bool
 wrongLength r = not (eqb (length r) (recordBytes (byte r 0)))
@@ -85,7 +87,9 @@ foundReceived rate form f =
 unfoldable pub foundOf : ℕ → List ℕ → Found
 foundOf zero r = Erased
 foundOf (suc zero) r = foundReceived High Values (fieldsOf Values r)
-foundOf (suc (suc n)) r = foundReceived Low Values (fieldsOf Values r)
+foundOf (suc (suc zero)) r = foundReceived Low Values (fieldsOf Values r)
+foundOf (suc (suc (suc zero))) r = foundReceived High Index (fieldsOf Index r)
+foundOf (suc (suc (suc (suc n)))) r = foundReceived Low Index (fieldsOf Index r)
 
 -- 3 to 5 before all else
 unfoldable pub found : List ℕ → Found
@@ -103,6 +107,8 @@ numberFound (Refused n) = number n
 abbrev pub kindOf : Rate → LspForm → ℕ
 kindOf High Values = 1
 kindOf Low Values = 2
+kindOf High Index = 3
+kindOf Low Index = 4
 
 -- the kind: byte 0 of a record that is accepted; a refused one may have any
 abbrev pub IsKind : Found → ℕ → Type 0

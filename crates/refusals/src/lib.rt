@@ -25,7 +25,9 @@ fn record_bytes(kind: u8) -> usize
     match kind {
         0 => tables::RECORD_ERASED_BYTES,
         1 => tables::RECORD_HIGH_BYTES,
-        _ => tables::RECORD_LOW_BYTES,
+        2 => tables::RECORD_LOW_BYTES,
+        3 => tables::RECORD_HIGH_INDEX_BYTES,
+        _ => tables::RECORD_LOW_INDEX_BYTES,
     }
 }
 
@@ -191,6 +193,8 @@ pub fn examine(record: &[u8]) -> Found
     match kind {
         0 => Found::Erased,
         1 => record_found(record, Rate::High, LspForm::Values),
-        _ => record_found(record, Rate::Low, LspForm::Values),
+        2 => record_found(record, Rate::Low, LspForm::Values),
+        3 => record_found(record, Rate::High, LspForm::Index),
+        _ => record_found(record, Rate::Low, LspForm::Index),
     }
 }

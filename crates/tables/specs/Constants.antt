@@ -37,7 +37,7 @@ freshLag = 60
 abbrev pub lagReach : ℕ
 lagReach = 3
 
--- ---- LSPs (document 01, "LSPs"; the Rust's lsp_extrapolate, lsp_interpolate, lsp_to_lpc_q13)
+-- ---- LSPs (document 01, "LSPs"; the Rust's lsp_decode, lsp_extrapolate, lsp_interpolate, lsp_to_lpc_q13)
 
 abbrev pub stabilityPasses : ℕ
 stabilityPasses = 10
@@ -48,9 +48,25 @@ lspMinimum = 256
 abbrev pub lspMinimumErased : ℕ
 lspMinimumErased = 512
 
--- 23/32, in 32768ths
+-- the predictor of an index (document 02, E1), 12/32, and that of erased frames, 23/32, in 32768ths
+abbrev pub lspPredictor : ℕ
+lspPredictor = 12288
+
 abbrev pub lspPredictorErased : ℕ
 lspPredictorErased = 23552
+
+-- the LSPs of the three bands of an index (LSP_BAND_INFO), and the rows of each band's codebook
+abbrev pub band0Size : ℕ
+band0Size = 3
+
+abbrev pub band1Size : ℕ
+band1Size = 3
+
+abbrev pub band2Size : ℕ
+band2Size = 4
+
+abbrev pub codebookRows : ℕ
+codebookRows = 256
 
 -- a quarter, in 32768ths
 abbrev pub quarter : ℕ
@@ -174,10 +190,10 @@ tapSumMax = 32767
 abbrev pub unvoicedGainMax : ℕ
 unvoicedGainMax = 13246
 
--- ---- the record (document 01, "The record", numbers 4 to 9)
+-- ---- the record (document 01, "The record", numbers 4 to 9; document 02, E1)
 
 abbrev pub kindMax : ℕ
-kindMax = 2
+kindMax = 4
 
 abbrev pub recordErasedBytes : ℕ
 recordErasedBytes = 1
@@ -188,13 +204,31 @@ recordHighBytes = 89
 abbrev pub recordLowBytes : ℕ
 recordLowBytes = 549
 
--- the place of candidate LSPs
+abbrev pub recordHighIndexBytes : ℕ
+recordHighIndexBytes = 72
+
+abbrev pub recordLowIndexBytes : ℕ
+recordLowIndexBytes = 532
+
+-- the place of candidate LSPs, or of the rows of an index
 abbrev pub lspsPlace : ℕ
 lspsPlace = 1
 
--- the bytes of the head: the kind and ten LSPs
+abbrev pub band0Place : ℕ
+band0Place = 1
+
+abbrev pub band1Place : ℕ
+band1Place = 2
+
+abbrev pub band2Place : ℕ
+band2Place = 3
+
+-- the bytes of the head: the kind, and ten LSPs or an index
 abbrev pub headValuesBytes : ℕ
 headValuesBytes = 21
+
+abbrev pub headIndexBytes : ℕ
+headIndexBytes = 4
 
 -- places in the fields after the head: base lag code A, the step code of subframe 1, base lag code B, the step code of subframe 3, the first block
 abbrev pub lagAPlace : ℕ

@@ -37,8 +37,8 @@ pub const LAG_REACH: i32 = 3;
 
 pub const LAG_CANDIDATES: usize = 2 * LAG_REACH as usize + 1;
 
-// LSPs: their gaps, passes of the stabiliser, the two minima (31.25 Hz and 62.5 Hz), 23/32 for erased frames, and the weights of
-// the interpolation.
+// LSPs: their gaps, passes of the stabiliser, the two minima (31.25 Hz and 62.5 Hz), the predictors, 12/32 for an index and 23/32
+// for erased frames, the LSPs of the three bands of an index, and the weights of the interpolation.
 pub const LSP_GAPS: usize = LPC_ORDER - 1;
 
 pub const LSP_STABILITY_MAX_ITERATIONS: usize = 10;
@@ -47,7 +47,15 @@ pub const LSP_DELTA_MIN_Q15: i16 = 256;
 
 pub const LSP_DELTA_MIN_ERASURE_Q15: i16 = 512;
 
+pub const LSP_PREDICTOR_B_Q15: i16 = 12288;
+
 pub const LSP_PREDICTOR_BE_Q15: i16 = 23552;
+
+pub const LSP_BAND_0_SIZE: usize = 3;
+
+pub const LSP_BAND_1_SIZE: usize = 3;
+
+pub const LSP_BAND_2_SIZE: usize = 4;
 
 pub const LSP_QUARTER_Q15: i16 = 8192;
 
@@ -134,10 +142,10 @@ pub const TAPS_SUM_MAX_Q15: i32 = 32767;
 
 pub const GAIN_UNVOICED_MAX: i32 = 13246;
 
-// The record: its largest kind, lengths by kind, the place of the LSPs, the head, which is the kind and the LSPs, places in the
-// fields after the head, the lengths of blocks, places in a block, largest lag and step codes, the step code that adds 0, largest
-// gain index and flags.
-pub const KIND_MAX: u8 = 2;
+// The record: its largest kind, lengths by kind, the places of the LSPs and of an index's rows, the head, which is the kind and
+// the LSPs or the index, places in the fields after the head, the lengths of blocks, places in a block, largest lag and step codes,
+// the step code that adds 0, largest gain index and flags.
+pub const KIND_MAX: u8 = 4;
 
 pub const RECORD_ERASED_BYTES: usize = 1;
 
@@ -145,9 +153,21 @@ pub const RECORD_HIGH_BYTES: usize = 89;
 
 pub const RECORD_LOW_BYTES: usize = 549;
 
+pub const RECORD_HIGH_INDEX_BYTES: usize = 72;
+
+pub const RECORD_LOW_INDEX_BYTES: usize = 532;
+
 pub const LSPS_PLACE: usize = 1;
 
+pub const BAND_0_PLACE: usize = 1;
+
+pub const BAND_1_PLACE: usize = 2;
+
+pub const BAND_2_PLACE: usize = 3;
+
 pub const HEAD_VALUES_BYTES: usize = 21;
+
+pub const HEAD_INDEX_BYTES: usize = 4;
 
 pub const LAG_A_PLACE: usize = 0;
 

@@ -16,7 +16,7 @@ use Rattle.excitation.specs.declared.Rate.{Rate}
 use Rattle.noise.specs.Noise.{nextRun}
 use Rattle.voicing.specs.Voicing.{voicingOf}
 use Rattle.layout.specs.Layout.{fieldsOf}
-use Rattle.record.specs.Record.{candidates, blockOf}
+use Rattle.record.specs.Record.{blockOf}
 use Rattle.refusals.specs.Refusals.{found}
 use Rattle.refusals.proofs.Received.{received-passed}
 use Rattle.theorems.proofs.Accepted.{Codes, codes}
@@ -27,7 +27,7 @@ use Rattle.state.specs.State.{lastLagBounded, lastBounded, inBounds}
 use Rattle.state.specs.declared.State.{State}
 use Rattle.state.proofs.Bounds as states
 use Rattle.decoder.specs.Frame.{plainInputs, filtersOf, frameState, erasedLsps, erasedSignal, erasedLast, erasedState}
-use Rattle.decoder.specs.Frame.{receivedLsps, receivedSignal, receivedInputs, receivedLast, receivedState}
+use Rattle.decoder.specs.Frame.{candidatesOf, receivedLsps, receivedSignal, receivedInputs, receivedLast, receivedState}
 use Rattle.decoder.specs.Decoder.{examined, answerTo}
 use Rattle.decoder.specs.declared.LastFrame.{LastFrame}
 use Rattle.theorems.specs.Bounds.{FreshInBounds, StaysInBounds}
@@ -93,7 +93,7 @@ module _ (s : State) (h : inBounds s ≡ true) (r : List ℕ) where
   found-in (Refused n) e = h
   found-in Erased e = erased-in s h
   found-in (Received rate form) e =
-      let f = fieldsOf form r in received-in s h rate f (codes rate f (received-passed r rate form e)) (candidates r)
+      let f = fieldsOf form r in received-in s h rate f (codes rate f (received-passed r rate form e)) (candidatesOf form r (s .«prev_lsp»))
 
   -- by the tests of numbers 1 and 2
   tested-in : (a b : Bool) →

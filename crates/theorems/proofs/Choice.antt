@@ -13,7 +13,7 @@ use Rattle.excitation.specs.declared.Subframe.{Subframe}
 use Rattle.excitation.specs.declared.Rate.{Rate}
 use Rattle.layout.specs.Layout.{fieldsOf}
 use Rattle.layout.specs.declared.LspForm.{LspForm}
-use Rattle.record.specs.Record.{candidates, blockOf}
+use Rattle.record.specs.Record.{blockOf}
 use Rattle.record.specs.declared.Block.{Block}
 use Rattle.refusals.specs.Refusals.{found}
 use Rattle.refusals.specs.declared.Found.{Found}
@@ -24,7 +24,7 @@ use Rattle.widths.specs.Widths.{frameSignal, historyAfter}
 use Rattle.state.specs.State.{freshState, inBounds}
 use Rattle.state.specs.declared.State.{State}
 use Rattle.state.proofs.Bounds.{fresh-in-bounds}
-use Rattle.decoder.specs.Frame.{frameState, receivedTo, receivedState}
+use Rattle.decoder.specs.Frame.{frameState, candidatesOf, receivedTo, receivedState}
 use Rattle.decoder.specs.Decoder.{examined, answerTo}
 use Rattle.theorems.specs.Call.{Item, next, after}
 use Rattle.theorems.proofs.Bounds.{stays-in-bounds}
@@ -35,10 +35,10 @@ use Rattle.theorems.proofs.Examined.{examined-same}
 
 module _ (s t : State) (k : SameKept s t) (r : List ℕ) where
   kept-received : (rate : Rate) (form : LspForm) → let f = fieldsOf form r in
-      SameKept (receivedState s rate f (candidates r)) (receivedState t rate f (candidates r))
+      SameKept (receivedState s rate f (candidatesOf form r (s .«prev_lsp»))) (receivedState t rate f (candidatesOf form r (t .«prev_lsp»)))
   unfolding frameState receivedState
   kept-received rate form = record {
-    lsps = ap (checkOrPrevious (pos lspMinimum) (candidates r)) (k .lsps);
+    lsps = ap (λ (p : List ℤ). checkOrPrevious (pos lspMinimum) (candidatesOf form r p) p) (k .lsps);
     history =
         let block : Subframe → Block = blockOf rate (fieldsOf form r) in
         ap (λ (x : List ℤ). historyAfter (inTurn (λ y n. receivedTo (block n) y n) (frameSignal x))) (k .history);

@@ -82,14 +82,14 @@ accepted-requires c κs = tt
 enum-known-rate : tie.Need-enum-known-rate
 enum-known-rate c = search needs
 
-candidate-lsps-requires : tie.Need-candidate-lsps-requires
-candidate-lsps-requires c κs = tt
+candidates-of-requires : tie.Need-candidates-of-requires
+candidates-of-requires c κs = tt
 
 fields-requires : tie.Need-fields-requires
 fields-requires c κs = tt
 
 decode-received-requires : tie.Need-decode-received-requires
-decode-received-requires c κs = let e = c .before .before .before .before .before .before in (whole e, sound e)
+decode-received-requires c κs = let e = c .before .before .before .before .before .before .before in (whole e, sound e)
 
 accepted-requires-2 : tie.Need-accepted-requires-2
 accepted-requires-2 c κs = tt
@@ -122,15 +122,15 @@ returns-5 c =
     let d = c .before .before in
     let f = d .before .before in
     let l = f .before in
-    let t = l .before .before in
+    let t = l .before .before .before in
     let e = t .before .before in
     let a = start e .args in
     let rate = t .rate .given .0 .0 in
     let form = t .rate .given .0 .1 .0 in
     let r = d .decode-received .ensures in
     received-promised (a .given) (a .«record» .now) (a .samples .now) rate form (found-is e (t .rate .given .1))
-    (c .accepted2 .ensures ∙ ap acceptance (r .0 ∙ (λ i. receivedState (a .given) rate (f .fields .ensures i) (l .candidate-lsps .ensures i))))
-    (r .1 ∙ (λ i. receivedSamples (a .given) rate (f .fields .ensures i) (l .candidate-lsps .ensures i)))
+    (c .accepted2 .ensures ∙ ap acceptance (r .0 ∙ (λ i. receivedState (a .given) rate (f .fields .ensures i) (l .candidates-of .ensures i))))
+    (r .1 ∙ (λ i. receivedSamples (a .given) rate (f .fields .ensures i) (l .candidates-of .ensures i)))
 
 pub decode-spec : {M : Type 1} → statement M
 decode-spec =
@@ -148,7 +148,7 @@ decode-spec =
     decode-erased-requires
     accepted-requires
     enum-known-rate
-    candidate-lsps-requires
+    candidates-of-requires
     fields-requires
     decode-received-requires
     accepted-requires-2

@@ -2,17 +2,18 @@ use mathlib.Core.Path.{refl, ap, _∙_}
 use mathlib.Core.List.{List}
 use Prim.Native.Nat.{_-_}
 use native.Mathlib.Omega.{arith}
-use lib.IntN.{ℤ}
+use lib.IntN.{ℤ, pos}
 use mir.Syntax.{w16}
 use Rattle.integers.specs.Base.{Fills, entry, tabulate}
 use Rattle.integers.specs.Fill.{fills-start, fills-next, fills-end}
 use Rattle.integers.specs.Signed.{read-back, back}
+use Rattle.tables.specs.Constants.{lspPredictorErased}
 use Rattle.lsp.specs.Lsps.{predicted}
 use Rattle.lsp.proofs.lsp_extrapolate.Statement.{statement}
 use Rattle.lsp.proofs.lsp_extrapolate.Tie as tie
 
 abbrev Inv-loop : tie.InvT-loop
-Inv-loop prev dc out₀ i₀ out i = Fills (λ k. predicted (entry dc k) (entry prev k)) 10 out i
+Inv-loop prev dc out₀ i₀ out i = Fills (λ k. predicted (pos lspPredictorErased) (entry dc k) (entry prev k)) 10 out i
 
 abbrev μ-loop : tie.MeasureT-loop
 μ-loop prev dc out₀ i₀ out i = 10 - i
@@ -56,12 +57,12 @@ loop-again c =
     let k = l .loop .i in
     let mean = read-back w16 (entry (l .before .lsp-dc .result) k) (c .before .before .predicted-lsp-arg .given) in
     let prev = read-back w16 (entry (l .before .before .args .t1) k) (c .before .predicted-lsp-arg2 .given) in
-    fills-next (l .loop .inv) (omega arith) (back w16 (c .predicted-lsp .ok) (c .predicted-lsp .ensures ∙ (λ j. predicted (mean j) (prev j))))
+    fills-next (l .loop .inv) (omega arith) (back w16 (c .predicted-lsp .ok) (c .predicted-lsp .ensures ∙ (λ j. predicted (pos lspPredictorErased) (mean j) (prev j))))
 
 returns : tie.Need-returns Inv-loop μ-loop
 returns c =
     let s = c .before .before in
-    fills-end (c .before .loop .inv) (omega arith) ∙ ap (λ (dc : List ℤ). tabulate (λ k. predicted (entry dc k) (entry (s .before .args .t1) k)) 10) (s .lsp-dc .ensures)
+    fills-end (c .before .loop .inv) (omega arith) ∙ ap (λ (dc : List ℤ). tabulate (λ k. predicted (pos lspPredictorErased) (entry dc k) (entry (s .before .args .t1) k)) 10) (s .lsp-dc .ensures)
 
 pub lsp-extrapolate-spec : {M : Type 1} → statement M
 lsp-extrapolate-spec =

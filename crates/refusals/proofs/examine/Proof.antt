@@ -12,7 +12,7 @@ use Rattle.refusals.specs.declared.Found.{Found}
 use Rattle.refusals.specs.declared.Found.the-variants.{Refused}
 use Rattle.refusals.specs.Refusals.{wrongLength, recordBytes, foundOf, found, numberFound, IsKind, recordNumber}
 use Rattle.integers.specs.Truth.{cond-here, cond-there}
-use Rattle.refusals.proofs.Arms.{from-two}
+use Rattle.refusals.proofs.Arms.{from-four}
 use Rattle.refusals.proofs.Received.{kind-found}
 use Rattle.refusals.proofs.examine.Statement.{statement}
 use Rattle.refusals.proofs.examine.Tie as tie
@@ -88,23 +88,40 @@ record-found-requires c κs = tt
 record-found-requires-2 : tie.Need-record-found-requires-2
 record-found-requires-2 c κs = tt
 
+record-found-requires-3 : tie.Need-record-found-requires-3
+record-found-requires-3 c κs = tt
+
+record-found-requires-4 : tie.Need-record-found-requires-4
+record-found-requires-4 c κs = tt
+
+-- what a kind's arm answers is promised where it is what is found of that kind
+arm : (c : tie.Else3) {n : ℕ} {x : Found} → let k = c .before .before .before in
+    k .byte-field .result ≡ n → x ≡ foundOf n (r k) → (x ≡ found (r k)) × ((numberFound x ≡ recordNumber (r k)) × IsKind x (byte (r k) 0))
+arm c e h = promised (r (c .before .before .before)) (h ∙ of-kind c e)
+
 returns-4 : tie.Need-returns-4
 unfolding foundOf
-returns-4 c = promised (r (c .before .before .before .before)) (of-kind (c .before) (c .match .keys1))
+returns-4 c = arm (c .before) (c .match .keys1) refl
 
 returns-5 : tie.Need-returns-5
 unfolding foundOf
-returns-5 c =
-    let m = c .before in
-    promised (r (m .before .before .before .before)) (c .record-found .ensures ∙ of-kind (m .before) (m .match .keys2))
+returns-5 c = let m = c .before in arm (m .before) (m .match .keys2) (c .record-found .ensures)
 
 returns-6 : tie.Need-returns-6
 unfolding foundOf
-returns-6 c =
+returns-6 c = let m = c .before in arm (m .before) (m .match .keys3) (c .record-found2 .ensures)
+
+returns-7 : tie.Need-returns-7
+unfolding foundOf
+returns-7 c = let m = c .before in arm (m .before) (m .match .keys4) (c .record-found3 .ensures)
+
+returns-8 : tie.Need-returns-8
+unfolding foundOf
+returns-8 c =
     let m = c .before in
-    let k = m .before .before .before .before in
-    let last = from-two (k .byte-field .result) (m .match .rest .0 .1) (m .match .rest .1) .1 in
-    promised (r k) (c .record-found2 .ensures ∙ of-kind (m .before) last)
+    let k = m .before .before .before .before .byte-field .result in
+    let o = m .match .rest in
+    arm (m .before) (from-four k (o .0 .0 .0 .1) (o .0 .0 .1) (o .0 .1) (o .1) .1) (c .record-found4 .ensures)
 
 pub examine-spec : {M : Type 1} → statement M
 examine-spec =
@@ -117,6 +134,10 @@ examine-spec =
     returns-3
     record-found-requires
     record-found-requires-2
+    record-found-requires-3
+    record-found-requires-4
     returns-4
     returns-5
-    returns-6)
+    returns-6
+    returns-7
+    returns-8)
