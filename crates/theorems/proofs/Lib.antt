@@ -5,6 +5,7 @@ pub mod Descriptions
 pub mod Examined
 pub mod Gains
 pub mod Histories
+pub mod Index
 pub mod Lags
 pub mod LastLag
 pub mod Memories

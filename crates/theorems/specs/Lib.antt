@@ -3,5 +3,6 @@ pub mod Bounds
 pub mod Refused
 pub mod Choice
 pub mod Descriptions
+pub mod Index
 pub mod LastLag
 pub mod Values
