@@ -442,6 +442,7 @@ IN_TURN = (3, 3, 4, 4, 3, 1, 4, 2, 3, 0, 4, 0, 0, 3, 2, 4, 1, 3, 0, 0, 0, 0, 3)
 
 
 def at_rows(rng, rows, kind=HIGH_INDEX):
+    """Speech with given rows."""
     return with_lsps(voiced(rng, kind), rows)
 
 
@@ -468,6 +469,7 @@ def index_calls(rng):
             decode(record)
         for record in in_turn(rng):
             decode(record)
+    fresh()
     for previous in FROM_MEANS:
         decode(with_lsps(voiced(rng), previous))
         decode(voiced(rng, HIGH_INDEX))

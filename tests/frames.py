@@ -188,7 +188,7 @@ def lengths(rng):
 
 
 def index_lengths(rng):
-    """Those of records with an index."""
+    """Lengths and kinds beside those of records with an index."""
     rate_high, rate_low = voiced(rng, HIGH_INDEX), unvoiced(rng, LOW_INDEX)
     yield [rate_high[:-1], rate_high, rate_high + [0], *[[kind] + rate_high[1:] for kind in (0, HIGH, LOW_INDEX, KIND_MOST + 1)]]
     yield [rate_low[:-1], rate_low, rate_low + [0], *[[kind] + rate_low[1:] for kind in (LOW, HIGH_INDEX, KIND_MOST + 1)]]

@@ -1,4 +1,4 @@
-"""Documents 01's and 02's places, counts and limits for the scripts beside this one: of a record, of a state and of a line.
+"""The places, counts and limits of documents 01 and 02 for the scripts beside this one: of a record, a state and a line.
 
 The oracle with the comparison and the second decoder have lists of their own (oracle/src/places.rs, second/places.h).
 """
