@@ -4,14 +4,14 @@
 Calls are High, Low and mixed, with losses of 1 to 6 frames after voiced and unvoiced speech, silence, saturation, unstable
 LSPs, extreme taps and lags at both ends, with the postfilter on and off. Every number is asked alone, with each lower one and
 with all lower ones true as well, and states at each bound of number 2 and one beyond. Then come states in which one step of
-voicing or gain decides, and last records with an index: calls of them among the others, previous LSPs at their ends, and the
-numbers 4 to 10.
+voicing or gain decides, and LSPs of which a floor does; last records with an index: calls of them among the others, previous
+LSPs at their ends, and the numbers 4 to 10.
 """
 import math
 import random
 
 from places import *
-from questions import AT_ENDS, FROM_MEANS, index_rows
+from questions import AT_ENDS, FLOORED, FROM_MEANS, index_rows, passes
 from signals import bits16, noise, periodic
 from voicing import EXACT, at_gate, level, ranked_otherwise, searched
 
@@ -148,6 +148,7 @@ def main():
     numbers(rng)
     narrow(rng)
     loudest()
+    floored()
     floors_decide(rng)
     gate_decides(rng)
     index_calls(rng)
@@ -430,6 +431,14 @@ def loudest():
     state(f)
     code = lag_code(LONGEST_LAG)
     decode(low(MEAN, (code, 1, code, 1), [(NO_TAPS, 0, part) for part in (values, *[[0] * SUB] * (SUBFRAMES - 1))]))
+
+
+def floored():
+    """LSPs that no pass moves and of which a floor decides a coefficient in subframe 3, which loud pulses make heard."""
+    fresh()
+    for lsps in FLOORED:
+        if passes(lsps, MINIMUM) == (0, True):
+            decode(high(lsps, (60, 1, 60, 1), [(NO_TAPS, 21, 0, 9, 1000)] * SUBFRAMES))
 
 
 # ---- records with an index
