@@ -87,6 +87,12 @@ pub const fn head(kind: u8) -> usize {
     }
 }
 
+/// The fields of a received record.
+pub fn fields(record: &mut [u8]) -> &mut [u8] {
+    let (_, fields) = record.split_at_mut(head(record[0]));
+    fields
+}
+
 /// Bytes of a block of a kind of received record.
 pub const fn block_size(kind: u8) -> usize {
     if is_high(kind) { HIGH_BLOCK } else { LOW_BLOCK }

@@ -117,6 +117,6 @@ pub fn three_bytes(bytes: &[u8]) -> u32 {
 }
 
 /// The first `N` 16-bit values, big-endian two's complement.
-fn words<const N: usize>(bytes: &[u8]) -> [i16; N] {
+pub fn words<const N: usize>(bytes: &[u8]) -> [i16; N] {
     std::array::from_fn(|i| i16::from_be_bytes([bytes[2 * i], bytes[2 * i + 1]]))
 }

@@ -65,12 +65,6 @@ fn candidates(rows: [u8; INDEX_BYTES], prev_lsp: &[i16; LSPS]) -> [i16; LSPS] {
     })
 }
 
-/// The fields of a received record.
-fn fields(bytes: &mut [u8]) -> &mut [u8] {
-    let (_, fields) = bytes.split_at_mut(head(bytes[0]));
-    fields
-}
-
 /// A copy with the byte at a place of its fields set.
 fn with(bytes: &[u8], place: usize, value: u8) -> Vec<u8> {
     let mut changed = bytes.to_vec();
