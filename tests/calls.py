@@ -3,13 +3,15 @@
 
 Calls are High, Low and mixed, with losses of 1 to 6 frames after voiced and unvoiced speech, silence, saturation, unstable
 LSPs, extreme taps and lags at both ends, with the postfilter on and off. Every number is asked alone, with each lower one and
-with all lower ones true as well, and states at each bound of number 2 and one beyond. Last come states in which one step of
-voicing or gain decides.
+with all lower ones true as well, and states at each bound of number 2 and one beyond. Then come states in which one step of
+voicing or gain decides, and LSPs of which a floor does; last records with an index: calls of them among the others, previous
+LSPs at their ends, and the numbers 4 to 10.
 """
 import math
 import random
 
 from places import *
+from questions import AT_ENDS, FLOORED, FROM_MEANS, index_rows, passes
 from signals import bits16, noise, periodic
 from voicing import EXACT, at_gate, level, ranked_otherwise, searched
 
@@ -28,21 +30,32 @@ def words(xs):
     return [b for x in xs for b in word(x)]
 
 
-def header(kind, lsps, lag_a, step1, lag_b, step3):
-    return [kind, *words(lsps), lag_a, step1, lag_b, step3]
+def head(kind, lsps):
+    """Ten LSPs, or the three rows of an index."""
+    return [kind, *(lsps if has_index(kind) else words(lsps))]
 
 
-def high(lsps, lags, blocks):
-    """Blocks of taps, gain index, flags, signs and position code."""
-    out = header(HIGH, lsps, *lags)
+def with_lsps(record, lsps):
+    """The record with other LSPs, or with another index."""
+    return head(record[0], lsps) + record[HEAD[record[0]] :]
+
+
+def with_lags(record, *lags):
+    """The record with other lags and steps."""
+    return record[: HEAD[record[0]]] + [*lags] + record[block_place(record[0], 0) :]
+
+
+def high(lsps, lags, blocks, kind=HIGH):
+    """Lag A, step 1, lag B and step 3; blocks of taps, gain index, flags, signs and position code."""
+    out = [*head(kind, lsps), *lags]
     for taps, gain, flags, signs, code in blocks:
         out += words(taps) + [gain, flags, signs, code >> 16, code >> 8 & 255, code & 255]
     return out
 
 
-def low(lsps, lags, blocks):
+def low(lsps, lags, blocks, kind=LOW):
     """Blocks of taps, gain index and sixty values."""
-    out = header(LOW, lsps, *lags)
+    out = [*head(kind, lsps), *lags]
     for taps, gain, values in blocks:
         out += words(taps) + [gain] + words(values)
     return out
@@ -60,7 +73,7 @@ def speech(rng, kind, lag, tap, gain, size=300):
     for s in range(SUBFRAMES):
         taps = [rng.randrange(-200, 200), tap // 6, tap, tap // 6, rng.randrange(-200, 200)]
         index = min(GAIN_MOST, max(0, gain + rng.randrange(-1, 2)))
-        if kind == HIGH:
+        if is_high(kind):
             train = TRAIN * rng.randrange(2) if lags[s // 2 * 2] < lag_code(TRAIN_LAG) else 0
             blocks.append((taps, index, train + rng.randrange(2), rng.randrange(SIGNS_MOST[s] + 1), rng.randrange(LIMITS[s])))
         else:
@@ -68,7 +81,8 @@ def speech(rng, kind, lag, tap, gain, size=300):
             for _ in range(4):
                 values[rng.randrange(SUB)] = rng.randrange(-size, size + 1)
             blocks.append((taps, index, values))
-    return (high if kind == HIGH else low)(near_mean(rng), lags, blocks)
+    lsps = index_rows(rng) if has_index(kind) else near_mean(rng)
+    return (high if is_high(kind) else low)(lsps, lags, blocks, kind)
 
 
 def voiced(rng, kind=HIGH):
@@ -80,9 +94,10 @@ def unvoiced(rng, kind=HIGH):
 
 
 def silent(kind):
-    if kind == HIGH:
-        return high(MEAN, (42, 1, 42, 1), [(NO_TAPS, 0, 0, 0, 0xFFFFFF)] * SUBFRAMES)
-    return low(MEAN, (42, 1, 42, 1), [(NO_TAPS, 0, [0] * SUB)] * SUBFRAMES)
+    lsps = [0] * BANDS if has_index(kind) else MEAN
+    if is_high(kind):
+        return high(lsps, (42, 1, 42, 1), [(NO_TAPS, 0, 0, 0, 0xFFFFFF)] * SUBFRAMES, kind)
+    return low(lsps, (42, 1, 42, 1), [(NO_TAPS, 0, [0] * SUB)] * SUBFRAMES, kind)
 
 
 # ---- calls
@@ -133,8 +148,11 @@ def main():
     numbers(rng)
     narrow(rng)
     loudest()
+    floored()
     floors_decide(rng)
     gate_decides(rng)
+    index_calls(rng)
+    index_numbers()
 
 
 def extremes(rng):
@@ -150,16 +168,14 @@ def extremes(rng):
     fresh()
     decode(voiced(rng))
     for lsps in ([0] * LSPS, list(reversed(MEAN)), [LEAST] * LSPS, [MOST] * LSPS, bits16(rng, LSPS), [1000, 1100, *range(2000, 10000, 1000)], sorted(bits16(rng, LSPS))):
-        record = voiced(rng)
-        record[AT_LSPS:AT_LAG_A] = words(lsps)
-        decode(record)
+        decode(with_lsps(voiced(rng), lsps))
     decode(ERASED)
     # Codes at both ends, and of lags at the longest one, at that of a train and where the voicing search leaves its tail.
     ends = [(0, LAG_CODE_MOST), (LAG_CODE_MOST, 0), (1, LAG_CODE_MOST - 1)]
     for a, b in ends + [(lag_code(lag), lag_code(lag + 1)) for lag in (LONGEST_LAG, TRAIN_LAG - 1, TAIL - 1)]:
         record = speech(rng, HIGH, 60, 9000, 15)
-        record[AT_LAG_A], record[AT_LAG_B] = a, b
-        record[AT_STEP_1], record[AT_STEP_3] = rng.choice(((0, STEP_MOST), (STEP_MOST, 0)))
+        step1, step3 = rng.choice(((0, STEP_MOST), (STEP_MOST, 0)))
+        record = with_lags(record, a, step1, b, step3)
         for s in range(SUBFRAMES):
             record[block_place(HIGH, s, AT_FLAGS)] &= 1
         decode(record)
@@ -242,13 +258,13 @@ def wrong(number, record):
     if number == 3:
         return []
     if number == 4:
-        return [LOW + 1] + r[1:]
+        return [KIND_MOST + 1] + r[1:]
     if number == 5:
         return r + [0]
     if number == 6:
-        place, most = AT_LAG_B, LAG_CODE_MOST
+        place, most = field_place(r[0], AT_LAG_B), LAG_CODE_MOST
     elif number == 7:
-        place, most = AT_STEP_3, STEP_MOST
+        place, most = field_place(r[0], AT_STEP_3), STEP_MOST
     else:
         place, most = block_limit(r[0], number, {8: 3, 9: 2, 10: 0}[number])
     r[place] = most + 1
@@ -274,14 +290,37 @@ def lower(number):
     return [m for m in range(1, number) if m != 3 and (m, number) != (4, 5)]
 
 
+def put(record, place, value):
+    return record[:place] + [value] + record[place + 1 :]
+
+
+def limits(plain, quiet):
+    """A High and a Low record at the limits of codes and steps, of gains, flags and signs, and beyond."""
+    kind = plain[0]
+    for field, most, *far in ((AT_LAG_A, LAG_CODE_MOST, 255), (AT_LAG_B, LAG_CODE_MOST), (AT_STEP_1, STEP_MOST, 255), (AT_STEP_3, STEP_MOST)):
+        for value in (most, most + 1, *far):
+            decode(put(plain, field_place(kind, field), value))
+    for s in range(SUBFRAMES):
+        for n, near in ((8, (1,)), (9, (1,)), (10, (0, 1))):
+            place, most = block_limit(kind, n, s)
+            for more in near:
+                decode(put(plain, place, most + more))
+        # A train at the longest base lag that can have one, and at the next.
+        for lag in (TRAIN_LAG - 1, TRAIN_LAG):
+            record = put(plain, lag_place(kind, s), lag_code(lag))
+            decode(put(record, block_place(kind, s, AT_FLAGS), TRAIN))
+        place, most = block_limit(quiet[0], 8, s)
+        decode(put(quiet, place, most + 1))
+
+
 def numbers(rng):
     fresh()
     good = voiced(rng)
-    plain = silent(HIGH)
+    plain, quiet = silent(HIGH), silent(LOW)
     # Alone, with each lower one, and with all lower ones: first from a state in bounds, then from one that is not.
     cases = dict.fromkeys(frozenset([n, *more]) for n in range(1, 11) for more in ([], *([m] for m in lower(n)), lower(n)))
     for n in (6, 7, 8):
-        at_once({n}, silent(LOW))
+        at_once({n}, quiet)
     for case in cases:
         if 2 not in case:
             at_once(case, plain)
@@ -302,31 +341,9 @@ def numbers(rng):
             place, most = block_limit(HIGH, n, k)
             r[place] = most + 1
         decode(r)
-    # At the limits of codes and steps, of gains, flags and signs, and beyond.
-    for place, most, *far in ((AT_LAG_A, LAG_CODE_MOST, 255), (AT_LAG_B, LAG_CODE_MOST), (AT_STEP_1, STEP_MOST, 255), (AT_STEP_3, STEP_MOST)):
-        for value in (most, most + 1, *far):
-            r = list(plain)
-            r[place] = value
-            decode(r)
-    for s in range(SUBFRAMES):
-        for n, near in ((8, (1,)), (9, (1,)), (10, (0, 1))):
-            place, most = block_limit(HIGH, n, s)
-            for more in near:
-                r = list(plain)
-                r[place] = most + more
-                decode(r)
-        # A train at the longest base lag that can have one, and at the next.
-        for lag in (TRAIN_LAG - 1, TRAIN_LAG):
-            r = list(plain)
-            r[lag_place(s)] = lag_code(lag)
-            r[block_place(HIGH, s, AT_FLAGS)] = TRAIN
-            decode(r)
-        r = silent(LOW)
-        r[block_place(LOW, s, AT_GAIN)] = GAIN_MOST + 1
-        decode(r)
+    limits(plain, quiet)
     # No byte, kinds, lengths, and the length of the samples.
-    quiet = silent(LOW)
-    for record in ([], [LOW + 1], [255], [9] * LENGTH[HIGH], [0, 0], [HIGH], [LOW], plain[:-1], plain + [0], [LOW] + plain[1:], [HIGH] * LENGTH[LOW], quiet[:-1], quiet + [0]):
+    for record in ([], [KIND_MOST + 1], [255], [9] * LENGTH[HIGH], [0, 0], [HIGH], [LOW], plain[:-1], plain + [0], [LOW] + plain[1:], [HIGH] * LENGTH[LOW], quiet[:-1], quiet + [0]):
         decode(record)
     for length in (0, 1, FRAME - 1, FRAME + 1, 300):
         decode(plain, length, -3)
@@ -414,6 +431,87 @@ def loudest():
     state(f)
     code = lag_code(LONGEST_LAG)
     decode(low(MEAN, (code, 1, code, 1), [(NO_TAPS, 0, part) for part in (values, *[[0] * SUB] * (SUBFRAMES - 1))]))
+
+
+def floored():
+    """LSPs that no pass moves and of which a floor decides a coefficient in subframe 3, which loud pulses make heard."""
+    fresh()
+    for lsps in FLOORED:
+        if passes(lsps, MINIMUM) == (0, True):
+            decode(high(lsps, (60, 1, 60, 1), [(NO_TAPS, 21, 0, 9, 1000)] * SUBFRAMES))
+
+
+# ---- records with an index
+
+# From the mean LSPs, rows whose candidates one pass moves, nine and all ten, and rows that give way to the previous LSPs.
+MOVED = ((69, 253, 111), (0, 236, 78), (0, 250, 78))
+GIVEN_WAY = (0, 255, 78)
+# Kinds in an order in which an index of either rate comes after each, after one loss and after more.
+IN_TURN = (3, 3, 4, 4, 3, 1, 4, 2, 3, 0, 4, 0, 0, 3, 2, 4, 1, 3, 0, 0, 0, 0, 3)
+
+
+def at_rows(rng, rows, kind=HIGH_INDEX):
+    """Speech with given rows."""
+    return with_lsps(voiced(rng, kind), rows)
+
+
+def in_turn(rng):
+    """A call of all kinds."""
+    for turn, kind in enumerate(IN_TURN):
+        yield (voiced, unvoiced)[turn % 2](rng, kind) if kind else ERASED
+
+
+def index_calls(rng):
+    """An index adds to the LSPs that the frame before used: its own, moved, previous or erased ones."""
+    for on in (1, 0):
+        fresh(on)
+        # The first and the last row of each band.
+        for rows in ((0, 0, 0), (255, 0, 0), (0, 255, 0), (0, 0, 255), (255, 255, 255)):
+            decode(at_rows(rng, rows))
+        for rows in (*MOVED, GIVEN_WAY):
+            fresh(on)
+            decode(at_rows(rng, rows))
+            decode(voiced(rng, HIGH_INDEX))
+        # The previous LSPs are other than the means.
+        fresh(on)
+        for record in (voiced(rng), at_rows(rng, GIVEN_WAY), voiced(rng, HIGH_INDEX), ERASED, at_rows(rng, GIVEN_WAY, LOW_INDEX)):
+            decode(record)
+        for record in in_turn(rng):
+            decode(record)
+    fresh()
+    for previous in FROM_MEANS:
+        decode(with_lsps(voiced(rng), previous))
+        decode(voiced(rng, HIGH_INDEX))
+    for previous in AT_ENDS:
+        f = fields()
+        f["prev_lsp"] = previous
+        state(f)
+        for record in (voiced(rng, HIGH_INDEX), ERASED, voiced(rng, HIGH_INDEX)):
+            decode(record)
+
+
+def index_numbers():
+    """Each of the numbers 6 to 10 and every two of them, each limit, and kinds and lengths."""
+    fresh()
+    plain, quiet = silent(HIGH_INDEX), silent(LOW_INDEX)
+    for record, most in ((plain, 10), (quiet, 8)):
+        for n in range(6, most + 1):
+            for m in range(6, n + 1):
+                at_once({m, n}, record)
+    limits(plain, quiet)
+    # Low values are no flags and no signs.
+    for place in (AT_FLAGS, AT_SIGNS):
+        decode(put(quiet, block_place(LOW_INDEX, 1, place), 255))
+    for kind in (KIND_MOST + 1, 255):
+        for record in (plain, quiet, ERASED):
+            decode([kind] + record[1:])
+    for record in (plain, quiet):
+        for other in (record[:-1], record + [0], record[:1]):
+            decode(other)
+    for kind, record in ((HIGH_INDEX, quiet), (HIGH_INDEX, silent(HIGH)), (LOW_INDEX, plain), (LOW_INDEX, silent(LOW)), (HIGH, plain), (LOW, quiet)):
+        decode([kind] + record[1:])
+    decode(plain)
+    decode(quiet)
 
 
 if __name__ == "__main__":

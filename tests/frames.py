@@ -12,7 +12,7 @@ import sys
 # A cache of the modules beside this script would be left in the repository.
 sys.dont_write_bytecode = True
 import signals
-from calls import NO_TAPS, block_limit, high, low, near_mean, silent, speech, unvoiced, voiced, words, wrong
+from calls import GIVEN_WAY, MOVED, NO_TAPS, at_rows, block_limit, high, low, near_mean, put, silent, speech, unvoiced, voiced, with_lags, with_lsps, words, wrong
 from places import *
 from questions import at_edge
 from signals import ALL, bits16
@@ -35,7 +35,7 @@ def probes(rng):
         yield text(voiced(rng))
         yield b"00"
         yield b"00"
-        yield text(unvoiced(rng))
+        yield text(unvoiced(rng, HIGH_INDEX))
         yield b"00"
 
 
@@ -81,10 +81,18 @@ def long_lines(rng):
     record = text(unvoiced(rng, LOW))
     yield [record]
     yield [record[:-2], record[:-1], record + b"0", record + b"00", record + b"\r", record[:-1] + b"g"]
-    yield [b"03" + record[2:], b"01" + record[2:], b"00" + record[2:], b"01" * LENGTH[LOW] + b"0", b"01" * (LENGTH[LOW] + 1)]
+    others = [text([kind]) + record[2:] for kind in (KIND_MOST + 1, HIGH, 0)]
+    yield [*others, b"01" * LENGTH[LOW] + b"0", b"01" * (LENGTH[LOW] + 1)]
     # One that a length of sixteen bits would take for a High record.
     yield [(text(voiced(rng)) * 400)[: 65536 + 2 * LENGTH[HIGH]]]
     yield [record + b"0" * (100_000 - LONGEST_LINE)]
+
+
+def index_lines(rng):
+    """A record with an index in either case, and what is none."""
+    record = text(voiced(rng, HIGH_INDEX))
+    yield [mixed_case(record), record.lower()]
+    yield [record[:-1], record[:-2], record + b"0", record + b"00", record + b"\r", record[:-1] + b"g", record + b" "]
 
 
 def frames_text(rng):
@@ -99,6 +107,7 @@ def frames_text(rng):
         *every_byte(),
         *spaced(good),
         *long_lines(rng),
+        *index_lines(rng),
     ]
     return between(rng, groups)
 
@@ -106,8 +115,8 @@ def frames_text(rng):
 # ---- what is refused by a number
 
 
-def put(record, place, value):
-    return record[:place] + [value] + record[place + 1 :]
+def in_field(record, place, value):
+    return put(record, field_place(record[0], place), value)
 
 
 def in_block(record, s, place, value):
@@ -118,27 +127,24 @@ def trained(record, code, s):
     """The record with one train, at a base lag code."""
     for k in range(SUBFRAMES):
         record = in_block(record, k, AT_FLAGS, 0)
-    return in_block(put(record, lag_place(s), code), s, AT_FLAGS, TRAIN)
+    return in_block(put(record, lag_place(record[0], s), code), s, AT_FLAGS, TRAIN)
 
 
-def alone(rng):
-    """Each number alone: of 6 to 10 each at every place that can have it."""
-    good = voiced(rng)
-    yield [[], [LOW + 1], put(good, 0, LOW + 1), put(good, 0, 255), good + [0], good[:-1]]
-    yield [put(good, place, value) for place in (AT_LAG_A, AT_LAG_B) for value in (LAG_CODE_MOST + 1, 255)]
-    yield [put(good, place, value) for place in (AT_STEP_1, AT_STEP_3) for value in (STEP_MOST + 1, 255)]
+def alone(good, quiet):
+    """Each number alone in a High or a Low record: of 6 to 10 each at every place that can have it."""
+    yield [[], [KIND_MOST + 1], put(good, 0, KIND_MOST + 1), put(good, 0, 255), good + [0], good[:-1]]
+    yield [in_field(good, place, value) for place in (AT_LAG_A, AT_LAG_B) for value in (LAG_CODE_MOST + 1, 255)]
+    yield [in_field(good, place, value) for place in (AT_STEP_1, AT_STEP_3) for value in (STEP_MOST + 1, 255)]
     for place, most in ((AT_GAIN, GAIN_MOST), (AT_FLAGS, FLAGS_MOST)):
         yield [in_block(good, s, place, v) for s in range(SUBFRAMES) for v in (most + 1, 255)]
     # The two bits above the pulses.
     yield [in_block(good, s, AT_SIGNS, bit * (SIGNS_MOST[s] + 1)) for s in range(SUBFRAMES) for bit in (1, 2)]
     yield [trained(good, lag_code(TRAIN_LAG), s) for s in range(SUBFRAMES)]
-    quiet = silent(LOW)
-    yield [put(quiet, AT_LAG_B, LAG_CODE_MOST + 1), put(quiet, AT_STEP_1, STEP_MOST + 1), in_block(quiet, 3, AT_GAIN, GAIN_MOST + 1)]
+    yield [in_field(quiet, AT_LAG_B, LAG_CODE_MOST + 1), in_field(quiet, AT_STEP_1, STEP_MOST + 1), in_block(quiet, 3, AT_GAIN, GAIN_MOST + 1)]
 
 
-def lowest(rng):
+def lowest(good):
     """Several numbers at once: every two of them, all from one on, and the lower one in the later subframe."""
-    good = voiced(rng)
     for n in range(4, 10):
         record = good
         for m in range(10, n - 1, -1):
@@ -149,7 +155,7 @@ def lowest(rng):
     for n, m in ((8, 9), (8, 10), (9, 10)):
         record = good
         for s, number in ((3, n), (0, m)):
-            place, most = block_limit(HIGH, number, s)
+            place, most = block_limit(good[0], number, s)
             record = put(record, place, most + 1)
         yield record
 
@@ -160,9 +166,9 @@ def on_both_sides(rng):
     # The train stands in a subframe of the other code.
     for place, s in ((AT_LAG_A, 2), (AT_LAG_B, 0)):
         plain = trained(good, 20, s)
-        yield [put(plain, place, code) for code in (LAG_CODE_MOST, LAG_CODE_MOST + 1)]
+        yield [in_field(plain, place, code) for code in (LAG_CODE_MOST, LAG_CODE_MOST + 1)]
     for place in (AT_STEP_1, AT_STEP_3):
-        yield [put(good, place, step) for step in (STEP_MOST, STEP_MOST + 1)]
+        yield [in_field(good, place, step) for step in (STEP_MOST, STEP_MOST + 1)]
     for s in range(SUBFRAMES):
         yield [in_block(good, s, AT_GAIN, gain) for gain in (GAIN_MOST, GAIN_MOST + 1)]
         yield [in_block(trained(good, 20, s), s, AT_FLAGS, flags) for flags in (FLAGS_MOST, FLAGS_MOST + 1)]
@@ -176,9 +182,17 @@ def on_both_sides(rng):
 def lengths(rng):
     """Lengths beside those of the kinds, and kinds that do not exist. One more byte than a Low record has is too long a line."""
     rate_high, rate_low = voiced(rng), unvoiced(rng, LOW)
-    yield [rate_high[:-1], rate_high, rate_high + [0], [LOW] + rate_high[1:], ERASED + rate_high[1:]]
-    yield [rate_low[:-1], rate_low, rate_low + [0], [HIGH] + rate_low[1:], ERASED + rate_low[1:]]
-    yield [ERASED, [0, 0], [HIGH], [LOW], [LOW + 1], [255], [HIGH] * 2, [LOW + 1] * LENGTH[HIGH], [255] * LENGTH[LOW]]
+    yield [rate_high[:-1], rate_high, rate_high + [0], [LOW] + rate_high[1:], ERASED + rate_high[1:], [HIGH_INDEX] + rate_high[1:]]
+    yield [rate_low[:-1], rate_low, rate_low + [0], [HIGH] + rate_low[1:], ERASED + rate_low[1:], [LOW_INDEX] + rate_low[1:]]
+    yield [ERASED, [0, 0], [HIGH], [LOW], [KIND_MOST + 1], [255], [HIGH] * 2, [KIND_MOST + 1] * LENGTH[HIGH], [255] * LENGTH[LOW]]
+
+
+def index_lengths(rng):
+    """Lengths and kinds beside those of records with an index."""
+    rate_high, rate_low = voiced(rng, HIGH_INDEX), unvoiced(rng, LOW_INDEX)
+    yield [rate_high[:-1], rate_high, rate_high + [0], *[[kind] + rate_high[1:] for kind in (0, HIGH, LOW_INDEX, KIND_MOST + 1)]]
+    yield [rate_low[:-1], rate_low, rate_low + [0], *[[kind] + rate_low[1:] for kind in (LOW, HIGH_INDEX, KIND_MOST + 1)]]
+    yield [[HIGH_INDEX], [LOW_INDEX], [KIND_MOST + 1] * 2, [HIGH_INDEX] * HEAD[HIGH_INDEX]]
 
 
 def in_a_run(rng):
@@ -189,7 +203,9 @@ def in_a_run(rng):
 
 def frames_refused(rng):
     first = [text(record) for record in in_a_run(rng)]
-    groups = [*alone(rng), list(lowest(rng)), *on_both_sides(rng), *lengths(rng)]
+    groups = [*alone(voiced(rng), silent(LOW)), list(lowest(voiced(rng))), *on_both_sides(rng), *lengths(rng)]
+    good = voiced(rng, HIGH_INDEX)
+    groups += [*alone(good, silent(LOW_INDEX)), list(lowest(good)), *index_lengths(rng)]
     return first + between(rng, [[text(record) for record in group] for group in groups])
 
 
@@ -212,9 +228,7 @@ ENDS = [
 
 def at_lag(rng, kind, lag_a, lag_b, steps):
     """Speech whose base lags and steps are given."""
-    record = speech(rng, kind, 60, 9000, 14)
-    record[AT_LAG_A:AT_BLOCKS] = [lag_code(lag_a), steps[0], lag_code(lag_b), steps[1]]
-    return record
+    return with_lags(speech(rng, kind, 60, 9000, 14), lag_code(lag_a), steps[0], lag_code(lag_b), steps[1])
 
 
 def train(rng, lag_a, lag_b, codes, gain=12):
@@ -238,10 +252,6 @@ def codes(rng):
     six, five = LIMITS[:2]
     for found in ((six - 1, five - 1, six, five), (six + 1, five + 1, 0xFFFFFF, 0xFFFFFF), (0, 0, 1 << 20, 1 << 18)):
         yield high(near_mean(rng), (30, 0, 90, STEP_MOST), [(NO_TAPS, 15 + s, s % 2, (41, 19)[s % 2], found[s]) for s in range(SUBFRAMES)])
-
-
-def with_lsps(record, lsps):
-    return record[:AT_LSPS] + words(lsps) + record[AT_LAG_A:]
 
 
 def turns(lsps):
@@ -368,9 +378,17 @@ def off_centre(rng):
     first, second = given_excitation(x, 48)
     # With a tap in subframe 3, so that the loss is heard; the values make up for it.
     taken = [(12000 * x[start - lag + n % lag] + 8192) // 16384 for n in range(SUB)]
-    second[AT_STEP_3] = STEP_MOST
+    second[field_place(LOW, AT_STEP_3)] = STEP_MOST
     second[block_place(LOW, 3) :] = words([0, 0, 12000, 0, 0]) + [9] + words(v - a for v, a in zip(x[start:], taken))
     return [first, second, ERASED, ERASED]
+
+
+def indexed(rng):
+    """An index after each kind, a loss, an index that was moved and one that gave way to the previous LSPs."""
+    yield from (ERASED, voiced(rng, HIGH_INDEX), voiced(rng, HIGH_INDEX), ERASED, ERASED, voiced(rng, LOW_INDEX), voiced(rng, HIGH_INDEX))
+    for rows in (MOVED[0], GIVEN_WAY, (255, 255, 255), (0, 0, 0)):
+        yield at_rows(rng, rows)
+    yield from (voiced(rng), unvoiced(rng, HIGH_INDEX), ERASED)
 
 
 def frames_calls(rng):
@@ -394,6 +412,7 @@ def frames_calls(rng):
         *gated(rng),
         *off_centre(rng),
         *[ERASED, silent(LOW), ERASED],
+        *indexed(rng),
     ]
     return [text(record) for record in records]
 

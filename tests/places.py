@@ -1,4 +1,4 @@
-"""Document 01's places, counts and limits for the scripts beside this one: of a record, of a state and of a line.
+"""The places, counts and limits of documents 01 and 02 for the scripts beside this one: of a record, a state and a line.
 
 The oracle with the comparison and the second decoder have lists of their own (oracle/src/places.rs, second/places.h).
 """
@@ -16,15 +16,19 @@ MEAN = [3131, 4721, 7690, 10806, 13872, 16495, 19752, 22260, 25484, 27718]
 MINIMUM, MINIMUM_ERASED = 256, 512
 PASSES = 10
 
-# An erased record, and the kinds of the others.
+# An erased record, and the kinds of the others; the last two have an index in place of the LSPs, a row of each band.
 ERASED = [0]
-HIGH, LOW = 1, 2
-# Places in a received record, and in a block. Low values stand where High flags do.
-AT_LSPS, AT_LAG_A, AT_STEP_1, AT_LAG_B, AT_STEP_3, AT_BLOCKS = 1, 21, 22, 23, 24, 25
+HIGH, LOW, HIGH_INDEX, LOW_INDEX = 1, 2, 3, 4
+KIND_MOST = LOW_INDEX
+BANDS, ROWS = 3, 256
+# The bytes of a head: the kind, and LSPs or an index.
+HEAD = {HIGH: 21, LOW: 21, HIGH_INDEX: 4, LOW_INDEX: 4}
+# Places after the head, and in a block. Low values stand where High flags do.
+AT_LAG_A, AT_STEP_1, AT_LAG_B, AT_STEP_3, AT_BLOCKS = 0, 1, 2, 3, 4
 AT_TAPS, AT_GAIN, AT_FLAGS, AT_SIGNS, AT_CODE = 0, 10, 11, 12, 13
 AT_VALUES = 11
-BLOCK = {HIGH: 16, LOW: 131}
-LENGTH = {kind: AT_BLOCKS + SUBFRAMES * size for kind, size in BLOCK.items()}
+BLOCK = {HIGH: 16, LOW: 131, HIGH_INDEX: 16, LOW_INDEX: 131}
+LENGTH = {kind: HEAD[kind] + AT_BLOCKS + SUBFRAMES * size for kind, size in BLOCK.items()}
 
 LAG_CODE_MOST, STEP_MOST, GAIN_MOST, FLAGS_MOST = 127, 3, 23, 3
 # The base lag of code 0, and the least one at which a train is refused.
@@ -66,11 +70,24 @@ def lag_code(lag):
     return lag - FIRST_LAG
 
 
-def lag_place(s):
+def is_high(kind):
+    return kind in (HIGH, HIGH_INDEX)
+
+
+def has_index(kind):
+    return kind in (HIGH_INDEX, LOW_INDEX)
+
+
+def field_place(kind, place):
+    """Where in a record a place after the head is."""
+    return HEAD[kind] + place
+
+
+def lag_place(kind, s):
     """Where the base lag code of a subframe stands."""
-    return (AT_LAG_A, AT_LAG_B)[s // 2]
+    return field_place(kind, (AT_LAG_A, AT_LAG_B)[s // 2])
 
 
 def block_place(kind, s, place=0):
     """Where the block of a subframe begins, or a place in it."""
-    return AT_BLOCKS + s * BLOCK[kind] + place
+    return field_place(kind, AT_BLOCKS + s * BLOCK[kind] + place)

@@ -3,11 +3,12 @@
 
 Operators of two operands: all pairs of edge values and a spread of others; l_mac a selection of them. Roots: at squares and
 beside them. Pairs of words: products, multiples, shifts, orders and quotients at edges and over a spread. LSPs: by classes of
-vectors, and by the passes that stabilising them takes. Pulses: codes at their limits, at each change of the first slot and at
-each weight, and descriptions by lag, gain, signs and pulses that meet. Excitation, synthesis and postfilters: signals.py.
-Voicing and the noise word: voicing.py.
+vectors, by the passes that stabilising them takes, and from an index at every row. Pulses: codes at their limits, at each
+change of the first slot and at each weight, and descriptions by lag, gain, signs and pulses that meet. Excitation, synthesis
+and postfilters: signals.py. Voicing and the noise word: voicing.py.
 
-With --counts it prints instead how many vectors of LSPs each class has, with --codes every position code of both counts.
+With --counts it prints instead how many vectors of LSPs and how many indices each class has, with --codes every position code
+of both counts.
 """
 import math
 import random
@@ -15,7 +16,7 @@ import sys
 
 import signals
 import voicing
-from places import CODE_LIMIT, FIRST_LAG, GAIN_MOST, LAST_BASE_LAG, LEAST, LONGEST_LAG, LSPS, MEAN, MINIMUM, MINIMUM_ERASED, MOST, PASSES, SLOTS, SUB, TRAIN_LAG
+from places import BANDS, CODE_LIMIT, FIRST_LAG, GAIN_MOST, LAST_BASE_LAG, LEAST, LONGEST_LAG, LSPS, MEAN, MINIMUM, MINIMUM_ERASED, MOST, PASSES, ROWS, SLOTS, SUB, TRAIN_LAG
 
 EDGES16 = [LEAST, LEAST + 1, -16385, -16384, -16383, -257, -256, -2, -1, 0, 1, 2, 255, 256, 16383, 16384, 16385, MOST - 1, MOST]
 EDGES32 = [-2147483648, -2147483647, -1073741825, -1073741824, -65537, -65536, -32769, -32768, -1, 0, 1, 32767, 32768, 65535, 65536, 1073741823, 1073741824, 2147450879, 2147450880, 2147483646, 2147483647]
@@ -234,7 +235,7 @@ def lsps(rng):
     for p in vectors:
         for minimum in MINIMA:
             ask("lsp_stability", minimum, *p)
-    for p in plain[::5] + EXTREME:
+    for p in plain[::10] + EXTREME:
         for minimum in OTHER_MINIMA:
             ask("lsp_stability", minimum, *p)
     for p in vectors[::2]:
@@ -242,9 +243,9 @@ def lsps(rng):
     for p in plain:
         ask("lsp_extrapolate", *p)
         ask("lsp_to_lpc_q13", *p)
-    for p in FLOORED + [ordered(rng) for _ in range(200)]:
+    for p in FLOORED + [ordered(rng) for _ in range(100)]:
         ask("lsp_to_lpc_q13", *p)
-    pairs = [(a, b) for a in EXTREME for b in EXTREME] + [(rng.choice(plain), rng.choice(plain)) for _ in range(150)]
+    pairs = [(a, b) for a in EXTREME for b in EXTREME] + [(rng.choice(plain), rng.choice(plain)) for _ in range(60)]
     for a, b in pairs:
         ask("frame_lpc_q13", *a, *b)
     for a, b in pairs[::2]:
@@ -252,6 +253,32 @@ def lsps(rng):
             ask("lsp_interpolate", k, *a, *b)
     for k in (4, 5, MOST):
         ask("lsp_interpolate", k, *plain[0], *plain[1])
+
+
+# Previous LSPs of an index: at the ends of 16 bits, and beside the means and where the distance from them begins to saturate.
+AT_ENDS = [[LEAST] * LSPS, [LEAST + 1] * LSPS, [MOST] * LSPS]
+FROM_MEANS = [[mean + distance for mean in MEAN] for distance in (1, -1, LEAST, LEAST - 1)]
+
+
+def index_rows(rng):
+    return [rng.randrange(ROWS) for _ in range(BANDS)]
+
+
+def indices(rng):
+    """Rows and previous LSPs by class."""
+    ends = AT_ENDS + FROM_MEANS
+    mixed = [[rng.choice(column) for column in zip(*ends)] for _ in range(12)]
+    return {
+        "index: every row, from the means": [([k] * BANDS, MEAN) for k in range(ROWS)],
+        "index: random": [(index_rows(rng), [spread16(rng) for _ in range(LSPS)]) for _ in range(100)],
+        "index: previous LSPs at ends, and near and far from the means": [(index_rows(rng), p) for p in ends * 4 + mixed],
+    }
+
+
+def indexed(rng):
+    for found in indices(rng).values():
+        for rows, previous in found:
+            ask("lsp_decode", *rows, *previous)
 
 
 def code_of(slots):
@@ -319,7 +346,7 @@ def descriptions(rng):
         for code in [0, limit - 1, limit, limit + 1] + LONG_CODES:
             for train in (0, 1):
                 vector(code, 2**n - 1, 1, n, 5, train, 20)
-        for _ in range(150):
+        for _ in range(75):
             vector(*description(rng, n), rng.randrange(2), rng.randrange(FIRST_LAG, TRAIN_LAG))
 
 
@@ -331,14 +358,15 @@ def main():
                 ask("fcbk_unpk_positions", c, n)
         return
     if "--counts" in sys.argv[1:]:
-        for name, found in classes(random.Random(7231)).items():
+        for name, found in {**classes(random.Random(7231)), **indices(random.Random(7231))}.items():
             print(f"{len(found):4} {name}")
         return
     operators(rng)
     roots(rng)
     wide(rng)
-    # A start of its own, so that --counts lists the vectors that are asked about.
+    # Starts of their own, so that --counts lists what is asked about.
     lsps(random.Random(7231))
+    indexed(random.Random(7231))
     codes(rng)
     descriptions(rng)
     signals.excitation(ask, rng)

@@ -1,4 +1,4 @@
-"""Wrong readings of document 01, each as one change to the second decoder (tests/mutations tries them).
+"""Wrong readings of documents 01 and 02, each as one change to the second decoder (tests/mutations tries them).
 
 A reading has a name, a file, a fragment that stands there exactly once, what takes its place, and what it says. Readings that
 come to the same samples and states as the right one are not listed.
@@ -16,11 +16,11 @@ OPERATORS = [
 RECORD = [
     ("little-endian", "bytes[0] * 256 + bytes[1]", "bytes[1] * 256 + bytes[0]", "16-bit values are little-endian"),
     ("no-sign", "return value < 32768 ? value : value - 65536;", "return value;", "16-bit values have no sign"),
-    ("lag-code-17", "return record[code_at] + FIRST_LAG;", "return record[code_at] + FIRST_LAG - 1;", "base lag is code + 17"),
-    ("lag-a-thrice", "s < 2 ? BYTE_LAG_A : BYTE_LAG_B", "s < 3 ? BYTE_LAG_A : BYTE_LAG_B", "A serves subframe 2 too"),
-    ("lags-in-turn", "s < 2 ? BYTE_LAG_A : BYTE_LAG_B", "s % 2 == 0 ? BYTE_LAG_A : BYTE_LAG_B", "A serves 0 and 2"),
-    ("step-1-is-3", "STEP[record[BYTE_STEP_1]]", "STEP[record[BYTE_STEP_3]]", "one step code serves both"),
-    ("step-3-is-1", "STEP[record[BYTE_STEP_3]]", "STEP[record[BYTE_STEP_1]]", "one step code serves both"),
+    ("lag-code-17", "[code_at] + FIRST_LAG;", "[code_at] + FIRST_LAG - 1;", "base lag is code + 17"),
+    ("lag-a-thrice", "s < 2 ? FIELD_LAG_A : FIELD_LAG_B", "s < 3 ? FIELD_LAG_A : FIELD_LAG_B", "A serves subframe 2 too"),
+    ("lags-in-turn", "s < 2 ? FIELD_LAG_A : FIELD_LAG_B", "s % 2 == 0 ? FIELD_LAG_A : FIELD_LAG_B", "A serves 0 and 2"),
+    ("step-1-is-3", "STEP[fields_of(record)[FIELD_STEP_1]]", "STEP[fields_of(record)[FIELD_STEP_3]]", "one step code serves both"),
+    ("step-3-is-1", "STEP[fields_of(record)[FIELD_STEP_3]]", "STEP[fields_of(record)[FIELD_STEP_1]]", "one step code serves both"),
     ("base-for-1", "    if (s == 1)\n", "    if (s == 9)\n", "subframe 1 has the base lag"),
 ]
 
@@ -35,7 +35,7 @@ NUMBERS = [
     ("bound-base-lag", "AT_BASE_LAG, 1, LEAST_BASE_LAG, MOST_BASE_LAG", "AT_BASE_LAG, 1, LEAST_BASE_LAG, LONGEST_LAG", "last base lag to 142"),
     ("bound-tap-sum", "AT_TAP_SUM, 1, 0, MOST_TAP_SUM", "AT_TAP_SUM, 1, -1, MOST_TAP_SUM", "tap sum from -1"),
     ("bound-unvoiced", "AT_UNVOICED_GAIN, 1, 0, MOST_UNVOICED_GAIN", "AT_UNVOICED_GAIN, 1, 0, MOST_UNVOICED_GAIN + 1", "unvoiced gain to 13247"),
-    ("kind-3", "if (record[0] > LOW)", "if (record[0] > LOW + 1)", "kind 3 exists"),
+    ("kind-5", "if (record[0] > MOST_KIND)", "if (record[0] > MOST_KIND + 1)", "kind 5 exists"),
     (
         "erased-long",
         "if (length != record_length(record[0]))",
@@ -45,19 +45,19 @@ NUMBERS = [
     ("longer", "if (length != record_length(record[0]))", "if (length < record_length(record[0]))", "longer records are cut"),
     (
         "code-a-alone",
-        "record[BYTE_LAG_A] > MOST_LAG_CODE || record[BYTE_LAG_B] > MOST_LAG_CODE",
-        "record[BYTE_LAG_A] > MOST_LAG_CODE",
+        "fields[FIELD_LAG_A] > MOST_LAG_CODE || fields[FIELD_LAG_B] > MOST_LAG_CODE",
+        "fields[FIELD_LAG_A] > MOST_LAG_CODE",
         "6 asks A alone",
     ),
     (
         "code-b-alone",
-        "record[BYTE_LAG_A] > MOST_LAG_CODE || record[BYTE_LAG_B] > MOST_LAG_CODE",
-        "record[BYTE_LAG_B] > MOST_LAG_CODE",
+        "fields[FIELD_LAG_A] > MOST_LAG_CODE || fields[FIELD_LAG_B] > MOST_LAG_CODE",
+        "fields[FIELD_LAG_B] > MOST_LAG_CODE",
         "6 asks B alone",
     ),
-    ("code-127", "record[BYTE_LAG_A] > MOST_LAG_CODE ||", "record[BYTE_LAG_A] > MOST_LAG_CODE - 1 ||", "code 127 gives 6"),
-    ("code-lag-142", "record[BYTE_LAG_B] > MOST_LAG_CODE", "record[BYTE_LAG_B] > LONGEST_LAG - FIRST_LAG", "6 past the longest lag"),
-    ("step-3-refused", "record[BYTE_STEP_1] > MOST_STEP ||", "record[BYTE_STEP_1] > MOST_STEP - 1 ||", "step 3 gives 7"),
+    ("code-127", "fields[FIELD_LAG_A] > MOST_LAG_CODE ||", "fields[FIELD_LAG_A] > MOST_LAG_CODE - 1 ||", "code 127 gives 6"),
+    ("code-lag-142", "fields[FIELD_LAG_B] > MOST_LAG_CODE", "fields[FIELD_LAG_B] > LONGEST_LAG - FIRST_LAG", "6 past the longest lag"),
+    ("step-3-refused", "fields[FIELD_STEP_1] > MOST_STEP ||", "fields[FIELD_STEP_1] > MOST_STEP - 1 ||", "step 3 gives 7"),
     ("gain-23", "[BLOCK_GAIN] > MOST_GAIN_INDEX", "[BLOCK_GAIN] > MOST_GAIN_INDEX - 1", "gain index 23 gives 8"),
     ("flags-7", "if (flags > MOST_FLAGS)", "if (flags > 7)", "9 from flags 8 on"),
     ("flags-2", "if (flags > MOST_FLAGS)", "if (flags > MOST_FLAGS - 1)", "flags 3 give 9"),
@@ -66,26 +66,26 @@ NUMBERS = [
     ("train-own-lag", "flags >= 2 && base_lag_of(record, s)", "flags >= 2 && lag_of(record, s)", "9 asks the subframe's own lag"),
     ("signs-above", "[BLOCK_SIGNS] >= 1 << PULSES[s]", "[BLOCK_SIGNS] > 1 << PULSES[s]", "the sign bit at the count alone is accepted"),
     ("signs-six", "[BLOCK_SIGNS] >= 1 << PULSES[s]", "[BLOCK_SIGNS] >= 1 << 6", "six signs in every subframe"),
-    ("low-has-flags", "    if (record[0] == LOW)\n", "    if (record[0] == 9)\n", "9 and 10 read Low values"),
+    ("low-has-flags", "    if (!is_high(record[0]))\n", "    if (record[0] == LOW_INDEX)\n", "9 and 10 read the Low values of kind 2"),
     ("order-1-2", "    if (count != FRAME)\n", "    if (!state_in_bounds(state)) return 2;\n    if (count != FRAME)\n", "2 before 1"),
     ("order-2-3", "    if (!state_in_bounds(state))\n", "    if (length == 0) return 3;\n    if (!state_in_bounds(state))\n", "3 before 2"),
-    ("order-4-5", "    if (record[0] > LOW)\n", "    if (length != record_length(record[0])) return 5;\n    if (record[0] > LOW)\n", "5 before 4"),
+    ("order-4-5", "    if (record[0] > MOST_KIND)\n", "    if (length != record_length(record[0])) return 5;\n    if (record[0] > MOST_KIND)\n", "5 before 4"),
     (
         "order-6-7",
-        "    if (record[BYTE_LAG_A] > MOST_LAG_CODE",
-        "    if (record[BYTE_STEP_1] > MOST_STEP || record[BYTE_STEP_3] > MOST_STEP) return 7;\n    if (record[BYTE_LAG_A] > MOST_LAG_CODE",
+        "    if (fields[FIELD_LAG_A] > MOST_LAG_CODE",
+        "    if (fields[FIELD_STEP_1] > MOST_STEP || fields[FIELD_STEP_3] > MOST_STEP) return 7;\n    if (fields[FIELD_LAG_A] > MOST_LAG_CODE",
         "7 before 6",
     ),
     (
         "order-7-8",
-        "    if (record[BYTE_STEP_1] > MOST_STEP",
-        "    if (any_subframe(record, gain_refused)) return 8;\n    if (record[BYTE_STEP_1] > MOST_STEP",
+        "    if (fields[FIELD_STEP_1] > MOST_STEP",
+        "    if (any_subframe(record, gain_refused)) return 8;\n    if (fields[FIELD_STEP_1] > MOST_STEP",
         "8 before 7",
     ),
     (
         "order-8-9",
         "    if (any_subframe(record, gain_refused))",
-        "    if (record[0] == HIGH && any_subframe(record, flags_refused)) return 9;\n    if (any_subframe(record, gain_refused))",
+        "    if (is_high(record[0]) && any_subframe(record, flags_refused)) return 9;\n    if (any_subframe(record, gain_refused))",
         "9 before 8",
     ),
     (
@@ -147,10 +147,119 @@ LSPS = [
         "previous and current swapped",
     ),
     ("interpolation-cut", "floor_div(quarters + 2, 4)", "floor_div(quarters, 4)", "interpolated LSPs are cut"),
-    ("distance-unlimited", "limit16(f->old_lsp[i] - MEAN_LSP[i])", "(f->old_lsp[i] - MEAN_LSP[i])", "the distance from the mean is not limited"),
-    ("extrapolation-truncated", "floor_div(distance * 23552, 32768)", "distance * 23552 / 32768", "the extrapolated distance truncates"),
-    ("extrapolated-12", "floor_div(distance * 23552, 32768)", "floor_div(distance * 12288, 32768)", "12 of 32 when erased, as when received"),
+    (
+        "distance-unlimited",
+        "predicted(f, i, 23552)",
+        "MEAN_LSP[i] + floor_div((f->old_lsp[i] - MEAN_LSP[i]) * 23552, 32768)",
+        "the distance from the mean is not limited",
+    ),
+    (
+        "extrapolation-truncated",
+        "predicted(f, i, 23552)",
+        "MEAN_LSP[i] + limit16(f->old_lsp[i] - MEAN_LSP[i]) * 23552 / 32768",
+        "the extrapolated distance truncates",
+    ),
+    ("extrapolated-12", "predicted(f, i, 23552)", "predicted(f, i, 12288)", "12 of 32 when erased, as when received"),
     ("no-extrapolation", "    extrapolate(f);", "    for (int i = 0; i < LSPS; i++) f->lsp[i] = f->old_lsp[i];", "an erased frame keeps the LSPs"),
+]
+
+# Document 02, E1.
+INDEX = [
+    ("index-kind-3-low", "return kind == HIGH || kind == HIGH_INDEX;", "return kind == HIGH;", "kind 3 is Low"),
+    ("index-rates-swapped", "return kind == HIGH || kind == HIGH_INDEX;", "return kind == HIGH || kind == LOW_INDEX;", "kind 3 is Low and 4 is High"),
+    ("index-share", "is_high(kind) ? 6144 : 8192", "kind == HIGH ? 6144 : 8192", "the pitch postfilter takes kind 3 for Low"),
+    ("index-length", "(size_t)(head_length(kind) +", "(size_t)(LSP_HEAD +", "kinds 3 and 4 have 89 and 549 bytes"),
+    ("index-length-531", "(size_t)(head_length(kind) +", "(size_t)(head_length(kind) - (kind == LOW_INDEX) +", "kind 4 has 531 bytes"),
+    (
+        "index-6-at-21",
+        "fields[FIELD_LAG_A] > MOST_LAG_CODE || fields[FIELD_LAG_B]",
+        "record[LSP_HEAD + FIELD_LAG_A] > MOST_LAG_CODE || record[LSP_HEAD + FIELD_LAG_B]",
+        "6 asks bytes 21 and 23 of every kind",
+    ),
+    (
+        "index-7-at-22",
+        "fields[FIELD_STEP_1] > MOST_STEP || fields[FIELD_STEP_3]",
+        "record[LSP_HEAD + FIELD_STEP_1] > MOST_STEP || record[LSP_HEAD + FIELD_STEP_3]",
+        "7 asks bytes 22 and 24 of every kind",
+    ),
+    ("index-lags-at-21", "return fields_of(record)[code_at]", "return record[LSP_HEAD + code_at]", "lag codes at 21 and 23 of every kind"),
+    (
+        "index-step-at-22",
+        "STEP[fields_of(record)[FIELD_STEP_1]]",
+        "STEP[record[LSP_HEAD + FIELD_STEP_1] % (MOST_STEP + 1)]",
+        "the step code of subframe 1 at 22 of every kind",
+    ),
+    ("index-blocks-at-25", "return fields_of(record) + FIELD_BLOCKS", "return record + LSP_HEAD + FIELD_BLOCKS", "blocks from 25 in every kind"),
+    ("index-low-has-flags", "    if (!is_high(record[0]))\n", "    if (record[0] == LOW)\n", "9 and 10 read the Low values of kind 4"),
+    ("index-high-unasked", "    if (!is_high(record[0]))\n", "    if (record[0] != HIGH)\n", "9 and 10 are not asked of kind 3"),
+    (
+        "index-little-endian",
+        "entry(record + BYTE_INDEX, i)",
+        "entry((const unsigned char[]){record[3], record[2], record[1]}, i)",
+        "the first byte picks the row of band 2, the third that of band 0",
+    ),
+    (
+        "index-one-row",
+        "entry(record + BYTE_INDEX, i)",
+        "entry((const unsigned char[]){record[1], record[1], record[1]}, i)",
+        "one row of ten",
+    ),
+    (
+        "index-rows-from-1",
+        "entry(record + BYTE_INDEX, i)",
+        "entry((const unsigned char[]){record[1] - 1, record[2] - 1, record[3] - 1}, i)",
+        "rows are counted from 1, and 0 is the last",
+    ),
+    ("index-last-row-0", "CODEBOOK_0[index[0]]", "CODEBOOK_0[index[0] % (ROWS - 1)]", "band 0 has 255 rows"),
+    ("index-last-row-1", "CODEBOOK_1[index[1]]", "CODEBOOK_1[index[1] % (ROWS - 1)]", "band 1 has 255 rows"),
+    ("index-last-row-2", "CODEBOOK_2[index[2]]", "CODEBOOK_2[index[2] % (ROWS - 1)]", "band 2 has 255 rows"),
+    (
+        "index-rows-of-four",
+        "CODEBOOK_1[index[1]][i - BAND_0]",
+        "CODEBOOK_1[(4 * index[1] + i - BAND_0) / BAND_1 % ROWS][(4 * index[1] + i - BAND_0) % BAND_1]",
+        "rows of four in band 1",
+    ),
+    (
+        "index-rows-of-three",
+        "CODEBOOK_2[index[2]][i - BAND_0 - BAND_1]",
+        "CODEBOOK_2[(3 * index[2] + i - BAND_0 - BAND_1) / BAND_2][(3 * index[2] + i - BAND_0 - BAND_1) % BAND_2]",
+        "rows of three in band 2",
+    ),
+    ("index-entries-scaled", "+ entry(record", "+ 4 * entry(record", "entries are 8192ths, as the Rust's name of the table says"),
+    ("index-23", "predicted(f, i, 12288)", "predicted(f, i, 23552)", "23 of 32 from an index, as when erased"),
+    ("index-from-means", "predicted(f, i, 12288)", "MEAN_LSP[i]", "an index adds to the mean LSPs"),
+    ("index-from-previous", "predicted(f, i, 12288)", "f->old_lsp[i]", "an index adds to the previous LSPs as they are"),
+    (
+        "index-mean-less-previous",
+        "predicted(f, i, 12288)",
+        "MEAN_LSP[i] + floor_div(limit16(MEAN_LSP[i] - f->old_lsp[i]) * 12288, 32768)",
+        "the mean's distance from the previous LSP",
+    ),
+    (
+        "index-unlimited",
+        "predicted(f, i, 12288)",
+        "MEAN_LSP[i] + floor_div((f->old_lsp[i] - MEAN_LSP[i]) * 12288, 32768)",
+        "the distance from the mean is not limited",
+    ),
+    (
+        "index-truncated",
+        "predicted(f, i, 12288)",
+        "MEAN_LSP[i] + limit16(f->old_lsp[i] - MEAN_LSP[i]) * 12288 / 32768",
+        "the share of the distance truncates",
+    ),
+    ("index-unsettled", "    settle_lsps(f, 256);", "    if (!has_index(record[0])) settle_lsps(f, 256);", "candidates from an index are not stabilised"),
+    (
+        "index-from-candidates",
+        "    take_candidates(f, record);\n    settle_lsps(f, 256);",
+        "    static int64_t old[LSPS], made[LSPS], used[LSPS];\n    for (int i = 0; i < LSPS; i++) { old[i] = f->old_lsp[i]; if (old[i] == used[i]) f->old_lsp[i] = made[i]; }\n    take_candidates(f, record);\n    for (int i = 0; i < LSPS; i++) { made[i] = f->lsp[i]; f->old_lsp[i] = old[i]; }\n    settle_lsps(f, 256);\n    for (int i = 0; i < LSPS; i++) used[i] = f->lsp[i];",
+        "an index adds to the last candidates, not to the LSPs that were used",
+    ),
+    (
+        "index-from-received",
+        "    take_candidates(f, record);\n    settle_lsps(f, 256);",
+        "    static int64_t old[LSPS], heard[LSPS];\n    for (int i = 0; i < LSPS; i++) { old[i] = f->old_lsp[i]; if (f->run > 0) f->old_lsp[i] = heard[i]; }\n    take_candidates(f, record);\n    for (int i = 0; i < LSPS; i++) f->old_lsp[i] = old[i];\n    settle_lsps(f, 256);\n    for (int i = 0; i < LSPS; i++) heard[i] = f->lsp[i];",
+        "after a loss an index adds to the LSPs of the last received frame",
+    ),
 ]
 
 PULSES = [
@@ -295,7 +404,7 @@ PITCH = [
     ),
     ("gate-closed", "< (wide)chosen.d * input_energy)", "<= (wide)chosen.d * input_energy)", "the gate is closed at equality"),
     ("no-gate", "if (4 * (wide)chosen.c * chosen.c < (wide)chosen.d * input_energy)", "if (0)", "no gate"),
-    ("shares-swapped", "kind == HIGH ? 6144 : 8192", "kind == HIGH ? 8192 : 6144", "the kinds' shares are swapped"),
+    ("shares-swapped", "is_high(kind) ? 6144 : 8192", "is_high(kind) ? 8192 : 6144", "the kinds' shares are swapped"),
     (
         "ratio-32768",
         "best.c >= best.d ? 32767 : best.c * 32768 / best.d",
@@ -327,7 +436,7 @@ PITCH = [
     (
         "pitch-erased",
         "    settle_lsps(f, 512);",
-        "    settle_lsps(f, 512); drive_by_excitation(f); { unsigned char r[BYTE_BLOCKS] = {HIGH}; r[BYTE_LAG_A] = r[BYTE_LAG_B] = (unsigned char)(f->base_lag - FIRST_LAG); for (int s = 0; s < SUBFRAMES && f->postfilter; s++) pitch_postfilter(f, r, s); } speak(f); return;",
+        "    settle_lsps(f, 512); drive_by_excitation(f); { unsigned char r[LSP_HEAD + FIELD_BLOCKS] = {HIGH}; r[LSP_HEAD + FIELD_LAG_A] = r[LSP_HEAD + FIELD_LAG_B] = (unsigned char)(f->base_lag - FIRST_LAG); for (int s = 0; s < SUBFRAMES && f->postfilter; s++) pitch_postfilter(f, r, s); } speak(f); return;",
         "the pitch postfilter runs on erased frames",
     ),
 ]
@@ -655,6 +764,6 @@ PROGRAM = [
     ),
 ]
 
-DECODER = OPERATORS + RECORD + NUMBERS + LSPS + PULSES + ADAPTIVE + PITCH + SYNTHESIS + FORMANT + ERASURE + FRAME
+DECODER = OPERATORS + RECORD + NUMBERS + LSPS + INDEX + PULSES + ADAPTIVE + PITCH + SYNTHESIS + FORMANT + ERASURE + FRAME
 FILES = {"decoder.c": DECODER, "tables.h": TABLES, "places.h": PLACES, "frames.c": PROGRAM}
 READINGS = [Reading(name, file, *rest) for file, rows in FILES.items() for name, *rest in rows]

@@ -1,8 +1,8 @@
 /*
  * A decoder to be compared with the others. It is separate code, in another arrangement; its arithmetic is that of
- * document 01 and, where that only names a function, of the Rust, so that a mistake in the Rust is repeated here.
- * All numbers are wide integers; a limit is applied where document 01 or the Rust has one that can act. Signals are
- * arrays over time: the past that the state holds, then the frame.
+ * documents 01 and 02 and, where these only name a function, of the Rust, so that a mistake in the Rust is repeated
+ * here. All numbers are wide integers; a limit is applied where a document or the Rust has one that can act. Signals
+ * are arrays over time: the past that the state holds, then the frame.
  */
 #include "decoder.h"
 #include "tables.h"
@@ -80,12 +80,28 @@ static int64_t word(const unsigned char *bytes)
     return value < 32768 ? value : value - 65536;
 }
 
+/* Document 02, E1: kind 3 is kind 1, which is High. */
+static int is_high(int kind)
+{
+    return kind == HIGH || kind == HIGH_INDEX;
+}
+
+/* Document 02, E1: kinds 3 and 4 have an index in place of the LSPs. */
+static int has_index(int kind)
+{
+    return kind == HIGH_INDEX || kind == LOW_INDEX;
+}
+
+/* "The record" and document 02, E1: the length of a head. */
+static int64_t head_length(int kind)
+{
+    return has_index(kind) ? INDEX_HEAD : LSP_HEAD;
+}
+
 /* "The record": the length of a block. */
 static int64_t block_length(int kind)
 {
-    if (kind == HIGH)
-        return HIGH_BLOCK;
-    return LOW_BLOCK;
+    return is_high(kind) ? HIGH_BLOCK : LOW_BLOCK;
 }
 
 /* "The record": the length of a record. */
@@ -93,29 +109,35 @@ static size_t record_length(int kind)
 {
     if (kind == ERASED)
         return 1;
-    return (size_t)(BYTE_BLOCKS + SUBFRAMES * block_length(kind));
+    return (size_t)(head_length(kind) + FIELD_BLOCKS + SUBFRAMES * block_length(kind));
+}
+
+/* "The record" and document 02, E1: lags, steps and blocks, which stand alike after either head. */
+static const unsigned char *fields_of(const unsigned char *record)
+{
+    return record + head_length(record[0]);
 }
 
 /* "The record": the block of a subframe. */
 static const unsigned char *block_of(const unsigned char *record, int s)
 {
-    return record + BYTE_BLOCKS + s * block_length(record[0]);
+    return fields_of(record) + FIELD_BLOCKS + s * block_length(record[0]);
 }
 
 /* "The record": the base lag of a subframe. */
 static int64_t base_lag_of(const unsigned char *record, int s)
 {
-    int code_at = s < 2 ? BYTE_LAG_A : BYTE_LAG_B;
-    return record[code_at] + FIRST_LAG;
+    int code_at = s < 2 ? FIELD_LAG_A : FIELD_LAG_B;
+    return fields_of(record)[code_at] + FIRST_LAG;
 }
 
 /* "The record": a subframe's own lag. */
 static int64_t lag_of(const unsigned char *record, int s)
 {
     if (s == 1)
-        return base_lag_of(record, s) + STEP[record[BYTE_STEP_1]];
+        return base_lag_of(record, s) + STEP[fields_of(record)[FIELD_STEP_1]];
     if (s == 3)
-        return base_lag_of(record, s) + STEP[record[BYTE_STEP_3]];
+        return base_lag_of(record, s) + STEP[fields_of(record)[FIELD_STEP_3]];
     return base_lag_of(record, s);
 }
 
@@ -175,13 +197,14 @@ static int any_subframe(const unsigned char *record, int (*refused)(const unsign
 /* "The ten numbers", 6 to 10: those of a received record of the right length. */
 static int received_refusal(const unsigned char *record)
 {
-    if (record[BYTE_LAG_A] > MOST_LAG_CODE || record[BYTE_LAG_B] > MOST_LAG_CODE)
+    const unsigned char *fields = fields_of(record);
+    if (fields[FIELD_LAG_A] > MOST_LAG_CODE || fields[FIELD_LAG_B] > MOST_LAG_CODE)
         return 6;
-    if (record[BYTE_STEP_1] > MOST_STEP || record[BYTE_STEP_3] > MOST_STEP)
+    if (fields[FIELD_STEP_1] > MOST_STEP || fields[FIELD_STEP_3] > MOST_STEP)
         return 7;
     if (any_subframe(record, gain_refused))
         return 8;
-    if (record[0] == LOW)
+    if (!is_high(record[0]))
         return 0;
     if (any_subframe(record, flags_refused))
         return 9;
@@ -199,7 +222,7 @@ static int refusal(const int64_t *state, const unsigned char *record, size_t len
         return 2;
     if (length == 0)
         return 3;
-    if (record[0] > LOW)
+    if (record[0] > MOST_KIND)
         return 4;
     if (length != record_length(record[0]))
         return 5;
@@ -293,12 +316,38 @@ static void interpolate(struct frame *f)
     }
 }
 
-/* "LSPs", lsp_extrapolate: the candidates of an erased frame; the distance from the mean is limited first. */
+/* "LSPs" and document 02, E1: the mean, and a share of the previous LSP's distance from it, which is limited first. */
+static int64_t predicted(const struct frame *f, int i, int64_t share)
+{
+    int64_t distance = limit16(f->old_lsp[i] - MEAN_LSP[i]);
+    return MEAN_LSP[i] + floor_div(distance * share, 32768);
+}
+
+/* "LSPs", lsp_extrapolate: the candidates of an erased frame. */
 static void extrapolate(struct frame *f)
 {
+    for (int i = 0; i < LSPS; i++)
+        f->lsp[i] = predicted(f, i, 23552);
+}
+
+/* Document 02, E1: an LSP's entry in the rows that the three bytes of an index pick. */
+static int64_t entry(const unsigned char *index, int i)
+{
+    if (i < BAND_0)
+        return CODEBOOK_0[index[0]][i];
+    if (i < BAND_0 + BAND_1)
+        return CODEBOOK_1[index[1]][i - BAND_0];
+    return CODEBOOK_2[index[2]][i - BAND_0 - BAND_1];
+}
+
+/* "The record" and, from an index by lsp_decode, document 02, E1: the candidates of a received frame. */
+static void take_candidates(struct frame *f, const unsigned char *record)
+{
     for (int i = 0; i < LSPS; i++) {
-        int64_t distance = limit16(f->old_lsp[i] - MEAN_LSP[i]);
-        f->lsp[i] = MEAN_LSP[i] + floor_div(distance * 23552, 32768);
+        if (has_index(record[0]))
+            f->lsp[i] = predicted(f, i, 12288) + entry(record + BYTE_INDEX, i);
+        else
+            f->lsp[i] = word(record + BYTE_LSP + 2 * i);
     }
 }
 
@@ -362,7 +411,7 @@ static void fixed_vector(const unsigned char *record, int s, int64_t vector[SUBF
     const unsigned char *block = block_of(record, s);
     for (int n = 0; n < SUBFRAME; n++)
         vector[n] = 0;
-    if (record[0] == HIGH)
+    if (is_high(record[0]))
         pulse_vector(block, PULSES[s], base_lag_of(record, s), vector);
     else
         for (int n = 0; n < SUBFRAME; n++)
@@ -452,7 +501,7 @@ static int64_t energy(const int64_t *samples)
 /* "Pitch postfilter": the weight in 32768ths by which the lagged sample is added. */
 static int64_t pitch_weight(struct match best, int kind)
 {
-    int64_t share = kind == HIGH ? 6144 : 8192;
+    int64_t share = is_high(kind) ? 6144 : 8192;
     int64_t ratio = best.c >= best.d ? 32767 : best.c * 32768 / best.d;
     return ratio * share / 32768;
 }
@@ -602,8 +651,7 @@ static void remember(struct frame *f, const unsigned char *record)
 /* "Frame": a received frame. */
 static void received_frame(struct frame *f, const unsigned char *record)
 {
-    for (int i = 0; i < LSPS; i++)
-        f->lsp[i] = word(record + BYTE_LSP + 2 * i);
+    take_candidates(f, record);
     settle_lsps(f, 256);
     for (int s = 0; s < SUBFRAMES; s++)
         excite(f, record, s);

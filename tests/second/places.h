@@ -1,7 +1,7 @@
 #ifndef SECOND_PLACES_H
 #define SECOND_PLACES_H
 
-/* Counts, places and limits of document 01, for the decoder and both programs. */
+/* Counts, places and limits of documents 01 and 02, for the decoder and both programs. */
 
 enum { LEAST = -32768, MOST = 32767 };
 
@@ -21,16 +21,27 @@ enum {
     MUTE_AFTER = 3
 };
 
-enum { ERASED = 0, HIGH = 1, LOW = 2 };
+/* Kinds; the last two have an index in place of the LSPs. */
+enum { ERASED = 0, HIGH = 1, LOW = 2, HIGH_INDEX = 3, LOW_INDEX = 4, MOST_KIND = LOW_INDEX };
 
-/* Places in a received record. */
+/* The LSPs of each band of an index, and the rows of its codebook. */
+enum { BAND_0 = 3, BAND_1 = 3, BAND_2 = 4, ROWS = 256 };
+
+/* The head of a received record, the kind and LSPs or an index: where they stand, and its bytes. */
 enum {
     BYTE_LSP = 1,
-    BYTE_LAG_A = 21,
-    BYTE_STEP_1 = 22,
-    BYTE_LAG_B = 23,
-    BYTE_STEP_3 = 24,
-    BYTE_BLOCKS = 25
+    BYTE_INDEX = 1,
+    LSP_HEAD = 21,
+    INDEX_HEAD = 4
+};
+
+/* Places after the head. */
+enum {
+    FIELD_LAG_A = 0,
+    FIELD_STEP_1 = 1,
+    FIELD_LAG_B = 2,
+    FIELD_STEP_3 = 3,
+    FIELD_BLOCKS = 4
 };
 
 /* Places in a block, and its bytes. */

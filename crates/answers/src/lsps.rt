@@ -3,6 +3,7 @@ use crate::input::Cursor;
 use crate::input::Word;
 use crate::input::next_list;
 use crate::input::next_word;
+use crate::input::number8;
 use crate::input::number16;
 use crate::names;
 use crate::output::print_sets;
@@ -13,6 +14,7 @@ use crate::output::print16;
 pub(crate) fn is_lsp(n: u64) -> bool {
     is_led(n)
         || n == names::COS_Q14
+        || n == names::LSP_DECODE
         || n == names::LSP_EXTRAPOLATE
         || n == names::LSP_TO_LPC_Q13
         || n == names::FRAME_LPC_Q13
@@ -40,6 +42,22 @@ fn led(buf: &mut [u8], n: u64, lead: Word, c: Cursor) -> Cursor {
     l
 }
 
+// Three rows lead the list.
+fn decoded(buf: &mut [u8], c: Cursor) -> Cursor {
+    let row0 = next_word(buf, c);
+    let row1 = next_word(buf, row0.cursor);
+    let row2 = next_word(buf, row1.cursor);
+    let mut p = [0i16; 10];
+    let k = next_list(buf, row2.cursor, &mut p);
+    print_ten(lsp::lsp_decode(
+        number8(row0.word),
+        number8(row1.word),
+        number8(row2.word),
+        p,
+    ));
+    k
+}
+
 fn lists(buf: &mut [u8], n: u64, c: Cursor) -> Cursor {
     let mut p = [0i16; 10];
     let k = next_list(buf, c, &mut p);
@@ -63,6 +81,9 @@ pub(crate) fn answer(buf: &mut [u8], n: u64, c: Cursor) -> Cursor {
         let r = next_word(buf, c);
         print16(lpc::cos_q14(number16(r.word)));
         return r.cursor;
+    }
+    if n == names::LSP_DECODE {
+        return decoded(buf, c);
     }
     if is_led(n) {
         let r = next_word(buf, c);

@@ -28,6 +28,8 @@ pub(crate) const L_MULT: u64 = 0x6E81_2934_378D;
 
 pub(crate) const LSP_CHECK_OR_PREVIOUS: u64 = 0x31D4_CB7F_2704_89C8;
 
+pub(crate) const LSP_DECODE: u64 = 0x094D_8A2D_6575_A512;
+
 pub(crate) const LSP_EXTRAPOLATE: u64 = 0x7AB8_9D4F_10DC_AE57;
 
 pub(crate) const LSP_INTERPOLATE: u64 = 0x24EC_F3E1_3516_8755;

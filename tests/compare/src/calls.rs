@@ -151,7 +151,7 @@ fn near_low(random: &mut Random, from: usize, out: &mut Vec<u8>) {
     let record = records::record(random, Class::Low);
     digits(random, &record, out);
     let near = [0, 1, 2, 2, 2, 3, 4][random.below(7) as usize];
-    out.resize(from + LONGEST_LINE - 2 + near, b'0');
+    out.resize(out.len() - 2 + near, b'0');
 }
 
 /// Any byte but the newline.

@@ -164,11 +164,12 @@ impl Counts {
     }
 
     fn text(&self, seconds: f64) -> String {
-        let [erased, high, low] = self.kinds;
+        let [erased, high, low, high_index, low_index] = self.kinds;
         let refused: Vec<String> = (1..11).map(|n| format!("{n}: {}", self.numbers[n])).collect();
         format!(
             "compare: {} records in calls and {} from arbitrary states, ours and the second equal with the {} Rust files: \
-             High {high}, Low {low}, erased {erased}, with postfilter off {}; refusals by number {}; {:.0} a second",
+             High {high}, Low {low}, High by index {high_index}, Low by index {low_index}, erased {erased}, with postfilter \
+             off {}; refusals by number {}; {:.0} a second",
             self.frames,
             self.states,
             SOURCES.len(),

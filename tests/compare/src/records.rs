@@ -1,4 +1,5 @@
-//! Random records: speech-like ones, loud ones, every field at its ends, and faulty ones.
+//! Random records: speech-like ones, loud ones, every field at its ends, and faulty ones. Of those received half have their LSPs
+//! and half an LSP index.
 
 use crate::faults;
 use crate::places::*;
@@ -43,8 +44,7 @@ pub fn record(random: &mut Random, class: Class) -> Vec<u8> {
 
 /// A record that is accepted.
 fn received(random: &mut Random, high: bool) -> Vec<u8> {
-    let mut out = vec![if high { HIGH } else { LOW }];
-    words(&mut out, lsps(random));
+    let mut out = if random.below(2) == 0 { values_head(random, high) } else { index_head(random, high) };
     let shortest = random.below(2) == 0;
     let [train, longest] = [TRAIN_LAG, LONGEST_LAG].map(|lag| u32::from(lag_code(lag)));
     let most = u32::from(LAG_CODE_MOST);
@@ -68,6 +68,20 @@ fn received(random: &mut Random, high: bool) -> Vec<u8> {
             words(&mut out, (0..SUBFRAME).map(|_| if dense || random.below(12) == 0 { random.within(-loudness, loudness) } else { 0 }).collect());
         }
     }
+    out
+}
+
+/// The kind and ten LSPs.
+fn values_head(random: &mut Random, high: bool) -> Vec<u8> {
+    let mut out = vec![if high { HIGH } else { LOW }];
+    words(&mut out, lsps(random));
+    out
+}
+
+/// The kind and the bytes of an LSP index, each often its first or last row.
+fn index_head(random: &mut Random, high: bool) -> Vec<u8> {
+    let mut out = vec![if high { HIGH_INDEX } else { LOW_INDEX }];
+    out.extend((0..INDEX_BYTES).map(|_| random.mostly_below(256, &[0, 255]) as u8));
     out
 }
 
@@ -122,13 +136,12 @@ fn faulty(random: &mut Random) -> Vec<u8> {
         2 => out[0] = random.below(256) as u8,
         3 => out = (0..random.below(100)).map(|_| random.below(256) as u8).collect(),
         _ => {
-            let size = (out.len() - BYTE_BLOCKS) / SUBFRAMES;
             for _ in 0..1 + random.below(3) {
-                let block = BYTE_BLOCKS + size * random.below(SUBFRAMES as u32) as usize;
+                let block = block_place(out[0], random.below(SUBFRAMES as u32) as usize);
                 let [gain, flags, signs] = [BLOCK_GAIN, BLOCK_FLAGS, BLOCK_SIGNS].map(|place| block + place);
-                let places = [BYTE_LAG_A, BYTE_STEP_1, BYTE_LAG_B, BYTE_STEP_3, gain, flags, signs];
+                let places = [FIELD_LAG_A, FIELD_STEP_1, FIELD_LAG_B, FIELD_STEP_3, gain, flags, signs];
                 let at = places[random.below(7) as usize];
-                out[at] = random.below(256) as u8;
+                fields(&mut out)[at] = random.below(256) as u8;
             }
         }
     }

@@ -3,7 +3,8 @@
 use crate::places::*;
 use crate::random::Random;
 
-/// The numbers of a state, in the order of the oracle's state.rs.
+/// The numbers of a state, in the order of the oracle's state.rs. Previous LSPs are often below the mean less 32768, where the
+/// distance that `lsp_decode` forms saturates.
 pub fn arbitrary(random: &mut Random) -> Vec<i128> {
     let loudness = [0, 9, 900, MOST][random.below(4) as usize];
     let mut list: Vec<i64> = (0..LSPS).map(|_| random.within(LEAST, MOST)).collect();

@@ -11,6 +11,7 @@ mod record;
 mod stubs;
 #[cfg(test)]
 mod tests;
+mod written;
 
 // The five files take `bitreader` and `tables` from the crate's root, and the error type from the
 // core crate; the oracle answers to that crate's name itself.

@@ -19,18 +19,25 @@ pub const TAIL: usize = tables::ERASURE_CLASSIFIER_HISTORY_LEN;
 pub const SHORTEST_LAG: u32 = tables::PITCH_MIN as u32;
 pub const LONGEST_LAG: u32 = tables::PITCH_MAX as u32;
 
-/// The kinds of a record.
+/// The kinds of a record: erased, or received with its LSPs as values or by an index (document 02, E1).
 pub const ERASED: u8 = 0;
 pub const HIGH: u8 = 1;
 pub const LOW: u8 = 2;
+pub const HIGH_INDEX: u8 = 3;
+pub const LOW_INDEX: u8 = 4;
 
-/// Places in a received record.
+/// A received record's head, after which its fields begin: the kind, and ten LSPs or the bytes of an index.
 pub const BYTE_LSPS: usize = 1;
-pub const BYTE_LAG_A: usize = 21;
-pub const BYTE_STEP_1: usize = 22;
-pub const BYTE_LAG_B: usize = 23;
-pub const BYTE_STEP_3: usize = 24;
-pub const BYTE_BLOCKS: usize = 25;
+pub const INDEX_BYTES: usize = 3;
+pub const HEAD_VALUES: usize = BYTE_LSPS + 2 * LSPS;
+pub const HEAD_INDEX: usize = BYTE_LSPS + INDEX_BYTES;
+
+/// Places in the fields.
+pub const FIELD_LAG_A: usize = 0;
+pub const FIELD_STEP_1: usize = 1;
+pub const FIELD_LAG_B: usize = 2;
+pub const FIELD_STEP_3: usize = 3;
+pub const FIELD_BLOCKS: usize = 4;
 
 /// Places in a block; Low values stand where High flags do.
 pub const BLOCK_GAIN: usize = 10;
@@ -41,10 +48,16 @@ pub const BLOCK_VALUES: usize = 11;
 
 pub const HIGH_BLOCK: usize = 16;
 pub const LOW_BLOCK: usize = 131;
-pub const HIGH_LENGTH: usize = BYTE_BLOCKS + SUBFRAMES * HIGH_BLOCK;
-pub const LOW_LENGTH: usize = BYTE_BLOCKS + SUBFRAMES * LOW_BLOCK;
+pub const HIGH_FIELDS: usize = FIELD_BLOCKS + SUBFRAMES * HIGH_BLOCK;
+pub const LOW_FIELDS: usize = FIELD_BLOCKS + SUBFRAMES * LOW_BLOCK;
 /// Bytes of a record of each kind.
-pub const LENGTHS: [usize; 3] = [1, HIGH_LENGTH, LOW_LENGTH];
+pub const LENGTHS: [usize; 5] = [
+    1,
+    HEAD_VALUES + HIGH_FIELDS,
+    HEAD_VALUES + LOW_FIELDS,
+    HEAD_INDEX + HIGH_FIELDS,
+    HEAD_INDEX + LOW_FIELDS,
+];
 
 pub const LAG_CODE_MOST: u8 = 127;
 pub const STEP_MOST: u8 = 3;
@@ -60,14 +73,44 @@ pub const TRAIN_LAG: u32 = 58;
 pub const PULSES: [u32; SUBFRAMES] = [6, 5, 6, 5];
 pub const CODE_LIMITS: [u32; SUBFRAMES] = [593_775, 142_506, 593_775, 142_506];
 
+/// Whether a kind of received record is High.
+pub const fn is_high(kind: u8) -> bool {
+    kind == HIGH || kind == HIGH_INDEX
+}
+
+/// Bytes of the head of a kind of received record.
+pub const fn head(kind: u8) -> usize {
+    if kind < HIGH_INDEX {
+        HEAD_VALUES
+    } else {
+        HEAD_INDEX
+    }
+}
+
+/// The fields of a received record.
+pub fn fields(record: &mut [u8]) -> &mut [u8] {
+    let (_, fields) = record.split_at_mut(head(record[0]));
+    fields
+}
+
+/// Bytes of a block of a kind of received record.
+pub const fn block_size(kind: u8) -> usize {
+    if is_high(kind) { HIGH_BLOCK } else { LOW_BLOCK }
+}
+
+/// Where in the fields of a kind of received record the block of a subframe begins.
+pub const fn block_place(kind: u8, s: usize) -> usize {
+    FIELD_BLOCKS + s * block_size(kind)
+}
+
 /// The code of a base lag.
 pub const fn lag_code(lag: u32) -> u8 {
     (lag - FIRST_LAG) as u8
 }
 
-/// Where the base lag code of a subframe stands.
+/// Where in the fields the base lag code of a subframe stands.
 pub const fn lag_place(s: usize) -> usize {
-    if s < 2 { BYTE_LAG_A } else { BYTE_LAG_B }
+    if s < 2 { FIELD_LAG_A } else { FIELD_LAG_B }
 }
 
 /// Places in the numbers of a state, and how many they are.

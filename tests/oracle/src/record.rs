@@ -1,11 +1,11 @@
-//! Document 01's record and its refusals, numbers 2 to 10. Number 1 cannot arise: the samples are
-//! an array.
+//! Document 01's record, with the kinds of document 02, E1, and its refusals, numbers 2 to 10.
+//! Number 1 cannot arise: the samples are an array.
 
 use crate::linepack::PackedRate;
 use crate::places::*;
-use crate::qdec::QSynthesis;
 use crate::qdec::driver::frame::{Fixed, Frame};
-use crate::qdec::driver::state::in_bounds;
+use crate::qdec::driver::state::{in_bounds, prev_lsp};
+use crate::qdec::{QSynthesis, lsp_decode};
 
 /// A record without fault.
 #[derive(Debug, PartialEq)]
@@ -17,26 +17,27 @@ pub enum Record {
 /// One record's samples, or the number of the first refusal that applies; then the state stays.
 pub fn decode(state: &mut QSynthesis, bytes: &[u8]) -> Result<[i16; FRAME], u8> {
     refuse(2, !in_bounds(state))?;
-    match read(bytes)? {
+    match read(bytes, prev_lsp(state))? {
         Record::Erased => Ok(state.decode_erased()),
         Record::Received(frame) => Ok(state.decode_frame(&frame)),
     }
 }
 
-/// Numbers 3 to 10 in their order, each over all subframes, then the fields.
-pub fn read(bytes: &[u8]) -> Result<Record, u8> {
+/// Numbers 3 to 10 in their order, each over all subframes, then the frame. The previous LSPs are
+/// for an LSP index.
+pub fn read(bytes: &[u8], prev_lsp: &[i16; LSPS]) -> Result<Record, u8> {
     refuse(3, bytes.is_empty())?;
     let kind = bytes[0];
-    refuse(4, kind > LOW)?;
+    refuse(4, kind > LOW_INDEX)?;
     refuse(5, bytes.len() != LENGTHS[usize::from(kind)])?;
     if kind == ERASED {
         return Ok(Record::Erased);
     }
-    let high = kind == HIGH;
-    let codes = [BYTE_LAG_A, BYTE_STEP_1, BYTE_LAG_B, BYTE_STEP_3].map(|place| bytes[place]);
-    let size = if high { HIGH_BLOCK } else { LOW_BLOCK };
+    let high = is_high(kind);
+    let fields = &bytes[head(kind)..];
+    let codes = [FIELD_LAG_A, FIELD_STEP_1, FIELD_LAG_B, FIELD_STEP_3].map(|place| fields[place]);
     let blocks: [&[u8]; SUBFRAMES] =
-        std::array::from_fn(|s| &bytes[BYTE_BLOCKS + s * size..][..size]);
+        std::array::from_fn(|s| &fields[block_place(kind, s)..][..block_size(kind)]);
     refuse(6, codes[0] > LAG_CODE_MOST || codes[2] > LAG_CODE_MOST)?;
     refuse(7, codes[1] > STEP_MOST || codes[3] > STEP_MOST)?;
     refuse(8, blocks.iter().any(|block| block[BLOCK_GAIN] > GAIN_MOST))?;
@@ -48,7 +49,8 @@ pub fn read(bytes: &[u8]) -> Result<Record, u8> {
         10,
         high && (0..SUBFRAMES).any(|s| blocks[s][BLOCK_SIGNS] >> PULSES[s] != 0),
     )?;
-    Ok(Record::Received(Box::new(frame(bytes, codes, blocks))))
+    let frame = frame(bytes, prev_lsp, codes, blocks);
+    Ok(Record::Received(Box::new(frame)))
 }
 
 /// Gives the number where its condition holds.
@@ -62,16 +64,21 @@ fn bad_flags(block: &[u8], base_code: u8) -> bool {
     flags > FLAGS_MOST || (flags & TRAIN != 0 && u32::from(base_code) + FIRST_LAG >= TRAIN_LAG)
 }
 
-/// The fields of a record that passed every test.
-fn frame(bytes: &[u8], codes: [u8; SUBFRAMES], blocks: [&[u8]; SUBFRAMES]) -> Frame {
-    let high = bytes[0] == HIGH;
+/// The frame of a record that passed every test.
+fn frame(
+    bytes: &[u8],
+    prev_lsp: &[i16; LSPS],
+    codes: [u8; SUBFRAMES],
+    blocks: [&[u8]; SUBFRAMES],
+) -> Frame {
+    let high = is_high(bytes[0]);
     Frame {
         rate: if high {
             PackedRate::High
         } else {
             PackedRate::Low
         },
-        candidate: words(&bytes[BYTE_LSPS..]),
+        candidate: candidate(bytes, prev_lsp),
         acl: codes.map(u32::from),
         taps: blocks.map(words),
         gain_index: blocks.map(|block| block[BLOCK_GAIN]),
@@ -79,11 +86,19 @@ fn frame(bytes: &[u8], codes: [u8; SUBFRAMES], blocks: [&[u8]; SUBFRAMES]) -> Fr
     }
 }
 
+/// The candidate LSPs of a received record: those in its head, or those of its index.
+fn candidate(bytes: &[u8], prev_lsp: &[i16; LSPS]) -> [i16; LSPS] {
+    let lsps = &bytes[BYTE_LSPS..];
+    match bytes[0] {
+        HIGH | LOW => words(lsps),
+        _ => lsp_decode(three_bytes(lsps), prev_lsp),
+    }
+}
+
 /// The pulses of a High block.
 fn pulses(block: &[u8]) -> Fixed {
-    let code = &block[BLOCK_CODE..];
     Fixed::Pulses {
-        pos: u32::from_be_bytes([0, code[0], code[1], code[2]]),
+        pos: three_bytes(&block[BLOCK_CODE..]),
         psig: u32::from(block[BLOCK_SIGNS]),
         grid: block[BLOCK_FLAGS] & GRID,
         train: block[BLOCK_FLAGS] & TRAIN != 0,
@@ -95,7 +110,13 @@ fn values(block: &[u8]) -> Fixed {
     Fixed::Vector(words(&block[BLOCK_VALUES..]).map(i32::from))
 }
 
+/// The first three bytes as a number, big-endian: a position code, or an LSP index, whose first byte
+/// is then the row of band 0.
+pub fn three_bytes(bytes: &[u8]) -> u32 {
+    u32::from_be_bytes([0, bytes[0], bytes[1], bytes[2]])
+}
+
 /// The first `N` 16-bit values, big-endian two's complement.
-fn words<const N: usize>(bytes: &[u8]) -> [i16; N] {
+pub fn words<const N: usize>(bytes: &[u8]) -> [i16; N] {
     std::array::from_fn(|i| i16::from_be_bytes([bytes[2 * i], bytes[2 * i + 1]]))
 }

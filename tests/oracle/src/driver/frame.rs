@@ -2,7 +2,7 @@
 //!
 //! `decode_params` looks up indices first; document 01 takes it from `lsp_check_or_previous` on.
 //! Its lines from there are repeated here, in their order and with their names; everything that
-//! they call is the unchanged function.
+//! they call is the unchanged function. An LSP index (document 02, E1) is looked up by record.rs.
 
 use super::super::*;
 

@@ -12,6 +12,7 @@
 //! lsp_stability min p(10)                 passed p(10)
 //! lsp_check_or_previous min cand(10) prev(10)      p(10)
 //! lsp_extrapolate prev(10)                p(10)
+//! lsp_decode b0 b1 b2 prev(10)            p(10); the bytes of the index as in a record
 //! lsp_interpolate k prev(10) cur(10)      p(10)
 //! lsp_to_lpc_q13 p(10)                    a(10)
 //! frame_lpc_q13 prev(10) cur(10)          a(40)
@@ -35,14 +36,15 @@ use super::super::*;
 use super::frame::{Fixed, Frame, doubled_gain};
 use super::state;
 use crate::numbers::{Numbers, text};
-use crate::places::{self, POSTFILTER_NUMBERS, STATE_NUMBERS, TAIL};
+use crate::places::{self, INDEX_BYTES, POSTFILTER_NUMBERS, STATE_NUMBERS, TAIL};
+use crate::record::three_bytes;
 use crate::spec_tables::fcbk_unpk_positions;
 
 /// Answers from the numbers of a question; none where one of them does not fit its parameter.
 type Layer = fn(&mut Numbers) -> Option<String>;
 
 /// Each layer with the count of its numbers. All are taken before the function is called.
-const LAYERS: [(&str, usize, Layer); 36] = [
+const LAYERS: [(&str, usize, Layer); 37] = [
     ("saturate", 1, |q| one(saturate(q.one()?))),
     ("add", 2, |q| one(add(q.one()?, q.one()?))),
     ("sub", 2, |q| one(sub(q.one()?, q.one()?))),
@@ -67,6 +69,7 @@ const LAYERS: [(&str, usize, Layer); 36] = [
     ("lsp_extrapolate", LPC_ORDER, |q| {
         list(lsp_extrapolate(&q.array()?))
     }),
+    ("lsp_decode", INDEX_BYTES + LPC_ORDER, candidates),
     ("lsp_interpolate", 1 + 2 * LPC_ORDER, interpolate),
     ("lsp_to_lpc_q13", LPC_ORDER, |q| {
         list(lsp_to_lpc_q13(&q.array()?))
@@ -158,6 +161,12 @@ fn stability(q: &mut Numbers) -> Option<String> {
 fn check_or_previous(q: &mut Numbers) -> Option<String> {
     let min = q.one()?;
     list(lsp_check_or_previous(q.array()?, &q.array()?, min))
+}
+
+/// The candidate LSPs of an index.
+fn candidates(q: &mut Numbers) -> Option<String> {
+    let index: [u8; INDEX_BYTES] = q.array()?;
+    list(lsp_decode(three_bytes(&index), &q.array()?))
 }
 
 /// The LSPs of a subframe.

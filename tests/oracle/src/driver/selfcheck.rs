@@ -1,4 +1,5 @@
-//! Shows that the driver's frame is `decode_params`: samples and states over random runs of frames.
+//! Shows that the driver's frame is `decode_params`, and so is the frame's record by LSP index:
+//! samples and states over random runs of frames.
 
 use super::super::*;
 use super::frame::{Fixed, Frame, lags};
@@ -8,6 +9,7 @@ use crate::places::{
     self, LAG_CODE_MOST, LEAST, LONGEST_LAG, MOST, STATE_NUMBERS, TRAIN_LAG, lag_code,
 };
 use crate::random::Random;
+use crate::{record, written};
 
 const SEED: u64 = 7231;
 
@@ -19,6 +21,8 @@ struct Counts {
     high: [u64; 2],
     low: [u64; 2],
     erased: [u64; 2],
+    high_by_index: u64,
+    low_by_index: u64,
     trains: u64,
     codes_without_slots: u64,
     low_past_16_bits: u64,
@@ -44,12 +48,13 @@ fn received(counts: &Counts) -> u64 {
     counts.high.iter().chain(&counts.low).sum()
 }
 
-/// One run from a fresh or a given state: the Rust on one side, the driver on the other.
+/// One run from a fresh or a given state: the Rust on one side, on the other the driver by frames,
+/// and by records.
 fn one_run(random: &mut Random, counts: &mut Counts, most: u64) -> Result<(), String> {
     let numbers = starting_state(random, counts);
     let build = || state::from_numbers(&mut Numbers::from(numbers.clone()));
-    let mut rust = build().expect("the state is in bounds");
-    let mut driver = build().expect("the state is in bounds");
+    let [mut rust, mut driver, mut reader] =
+        [(); 3].map(|()| build().expect("the state is in bounds"));
     counts.runs += 1;
     let mut erased = false;
     for _ in 0..most.min(1 + u64::from(random.below(40))) {
@@ -59,16 +64,33 @@ fn one_run(random: &mut Random, counts: &mut Counts, most: u64) -> Result<(), St
                 break;
             }
             counts.erased(&rust);
-            let samples = [rust.decode_erased(), driver.decode_erased()];
-            same("erased", counts, samples, [&rust, &driver])?;
+            let samples = [
+                rust.decode_erased(),
+                driver.decode_erased(),
+                accepted(&mut reader, &[places::ERASED])?,
+            ];
+            same("erased", counts, samples, [&rust, &driver, &reader])?;
         }
         let params = random_params(random);
         let frame = looked_up(&params, &driver.prev_lsp);
-        counts.received(&frame, rust.postfilter);
-        let samples = [rust.decode_params(&params), driver.decode_frame(&frame)];
-        same("received", counts, samples, [&rust, &driver])?;
+        let record = record_by_index(&params, &frame);
+        counts.received(&frame, &record, rust.postfilter);
+        let samples = [
+            rust.decode_params(&params),
+            driver.decode_frame(&frame),
+            match record {
+                Some(bytes) => accepted(&mut reader, &bytes)?,
+                None => reader.decode_frame(&frame),
+            },
+        ];
+        same("received", counts, samples, [&rust, &driver, &reader])?;
     }
     Ok(())
+}
+
+/// The samples of a record, which must not be refused.
+fn accepted(state: &mut QSynthesis, bytes: &[u8]) -> Result<[i16; FRAME_SIZE_SAMPLES], String> {
+    record::decode(state, bytes).map_err(|number| format!("{bytes:?} is refused with {number}"))
 }
 
 /// A fresh state, or one with every field random within the bounds of number 2.
@@ -169,6 +191,28 @@ fn looked_up(p: &SpecFrameParams, prev_lsp: &[i16; LPC_ORDER]) -> Frame {
     }
 }
 
+/// The frame's record with its LSP index; none where a sign or a value does not fit.
+fn record_by_index(p: &SpecFrameParams, frame: &Frame) -> Option<Vec<u8>> {
+    let fits = |(fixed, pulses): (&Fixed, u32)| match fixed {
+        Fixed::Pulses { psig, .. } => psig >> pulses == 0,
+        Fixed::Vector(v) => in_16_bits(v),
+    };
+    if !frame.fixed.iter().zip(places::PULSES).all(fits) {
+        return None;
+    }
+    let kind = match p.rate {
+        PackedRate::High => places::HIGH_INDEX,
+        PackedRate::Low => places::LOW_INDEX,
+    };
+    let index = &p.lsp_index.to_be_bytes()[1..];
+    Some(written::record(kind, index, frame))
+}
+
+/// Whether a Low vector can stand in a record.
+fn in_16_bits(v: &[i32; SUBFRAME_SIZE]) -> bool {
+    v.iter().all(|x| i16::try_from(*x).is_ok())
+}
+
 /// Pulses as they are; at the low rate the finished vector.
 fn fixed(p: &SpecFrameParams, s: usize, lag: i32, g: &QGainInfo) -> Fixed {
     match p.rate {
@@ -186,24 +230,35 @@ fn fixed(p: &SpecFrameParams, s: usize, lag: i32, g: &QGainInfo) -> Fixed {
     }
 }
 
-/// The first difference between the Rust's samples and state and the driver's, if there is one.
+/// The first difference between the Rust, which stands first, and the driver by frame and by
+/// record, if there is one.
 fn same(
     kind: &str,
     counts: &Counts,
-    samples: [[i16; FRAME_SIZE_SAMPLES]; 2],
-    states: [&QSynthesis; 2],
+    samples: [[i16; FRAME_SIZE_SAMPLES]; 3],
+    states: [&QSynthesis; 3],
 ) -> Result<(), String> {
-    let [rust, driver] = states.map(|q| (state::to_numbers(q), state::clamps(q)));
-    let first = if let Some(i) = (0..FRAME_SIZE_SAMPLES).find(|&i| samples[0][i] != samples[1][i]) {
-        format!("sample {i}: {} and {}", samples[0][i], samples[1][i])
-    } else if let Some(i) = (0..STATE_NUMBERS).find(|&i| rust.0[i] != driver.0[i]) {
-        format!("state number {i}: {} and {}", rust.0[i], driver.0[i])
-    } else if !(rust.1 && driver.1) {
-        "the synthesis memory is not clamped".to_string()
-    } else {
-        return Ok(());
-    };
-    Err(format!("{kind} frame, after {}: {first}", counts.text()))
+    for (i, by) in [(1, "frame"), (2, "record")] {
+        let pair = [(&samples[0], states[0]), (&samples[i], states[i])];
+        if let Some(first) = difference(pair) {
+            return Err(format!("{kind} {by}, after {}: {first}", counts.text()));
+        }
+    }
+    Ok(())
+}
+
+/// The first difference of two frames' samples and of the states after them.
+fn difference(pair: [(&[i16; FRAME_SIZE_SAMPLES], &QSynthesis); 2]) -> Option<String> {
+    let [a, b] = pair.map(|(samples, _)| samples);
+    if let Some(i) = (0..FRAME_SIZE_SAMPLES).find(|&i| a[i] != b[i]) {
+        return Some(format!("sample {i}: {} and {}", a[i], b[i]));
+    }
+    let [a, b] = pair.map(|(_, state)| state::to_numbers(state));
+    if let Some(i) = (0..STATE_NUMBERS).find(|&i| a[i] != b[i]) {
+        return Some(format!("state number {i}: {} and {}", a[i], b[i]));
+    }
+    let clamped = pair.iter().all(|(_, state)| state::clamps(state));
+    (!clamped).then(|| "the synthesis memory is not clamped".to_string())
 }
 
 impl Counts {
@@ -214,13 +269,14 @@ impl Counts {
         self.muted += u64::from(state.erased_run >= crate::tables::ERASURE_MUTE_AFTER_FRAMES);
     }
 
-    /// Counts a received frame.
-    fn received(&mut self, frame: &Frame, postfilter: bool) {
-        let kind = match frame.rate {
-            PackedRate::High => &mut self.high,
-            PackedRate::Low => &mut self.low,
+    /// Counts a received frame, and its record where it has one.
+    fn received(&mut self, frame: &Frame, record: &Option<Vec<u8>>, postfilter: bool) {
+        let (kind, by_index) = match frame.rate {
+            PackedRate::High => (&mut self.high, &mut self.high_by_index),
+            PackedRate::Low => (&mut self.low, &mut self.low_by_index),
         };
         kind[usize::from(postfilter)] += 1;
+        *by_index += u64::from(record.is_some());
         let mut candidate = frame.candidate;
         self.previous_lsps += u64::from(!lsp_stability(&mut candidate, LSP_DELTA_MIN_Q15));
         for (s, fixed) in frame.fixed.iter().enumerate() {
@@ -230,10 +286,7 @@ impl Counts {
                     let limit = crate::spec_tables::MPMLQ_MAX_POSITION[s];
                     self.codes_without_slots += u64::from(*pos >= limit);
                 }
-                Fixed::Vector(v) => {
-                    let fits = v.iter().all(|x| i16::try_from(*x).is_ok());
-                    self.low_past_16_bits += u64::from(!fits);
-                }
+                Fixed::Vector(v) => self.low_past_16_bits += u64::from(!in_16_bits(v)),
             }
         }
     }
@@ -245,13 +298,15 @@ impl Counts {
             format!("{} ({on} with postfilter, {off} without)", on + off)
         };
         format!(
-            "{}: High {}, Low {}, erased {}; runs {}, {} from given states; trains {}, \
-             codes without slots {}, Low vectors past 16 bits {}, previous LSPs {}, \
-             erased voiced {}, muted {}",
+            "{}: High {}, Low {}, erased {}; as records High by index {}, Low by index {}; runs {}, \
+             {} from given states; trains {}, codes without slots {}, Low vectors past 16 bits {}, \
+             previous LSPs {}, erased voiced {}, muted {}",
             received(self) + self.erased.iter().sum::<u64>(),
             kind(self.high),
             kind(self.low),
             kind(self.erased),
+            self.high_by_index,
+            self.low_by_index,
             self.runs,
             self.given_states,
             self.trains,

@@ -84,6 +84,11 @@ pub(super) fn postfilter_from_numbers(numbers: &mut Numbers) -> Option<Postfilte
     })
 }
 
+/// The LSPs of the frame before, which an LSP index is added to.
+pub fn prev_lsp(state: &QSynthesis) -> &[i16; places::LSPS] {
+    &state.prev_lsp
+}
+
 /// Whether the synthesis memory is the clamped one, the only one that document 01 takes over.
 pub fn clamps(state: &QSynthesis) -> bool {
     state.clamp_syn_mem

@@ -1,6 +1,7 @@
 //! The values of document 01 through the single layers, and questions that are none.
 
 use super::*;
+use crate::numbers::text;
 use crate::qdec::driver::layers::answer;
 use crate::spec_tables::fcbk_unpk_positions;
 
@@ -32,6 +33,10 @@ fn values_to_check_against() {
         ("fcbk_unpk_positions 142505 5", "25 26 27 28 29"),
         ("mult -32768 -32768", "32767"),
         ("mult -1 1", "-1"),
+        (
+            "lsp_decode 0 0 0 3131 4721 7690 10806 13872 16495 19752 22260 25484 27718",
+            "3131 4721 7690 10806 13872 16495 19752 22260 25484 27718",
+        ),
     ]);
 }
 
@@ -81,6 +86,36 @@ fn the_walk_of_document_01_gives_the_same_slots_for_every_code() {
         }
         assert_eq!(fcbk_unpk_positions(limit, pulses as usize), None);
     }
+}
+
+/// The question of an LSP index with these previous LSPs.
+fn index_question(rows: [u8; INDEX_BYTES], prev_lsp: &[i16; LSPS]) -> String {
+    let [band0, band1, band2] = rows;
+    format!("lsp_decode {band0} {band1} {band2} {}", text(prev_lsp))
+}
+
+#[test]
+fn the_rows_of_an_lsp_index() {
+    // Each entry once, then the order of the bytes; previous LSPs at the mean and as far off as can be.
+    let orders = [[1, 2, 3], [3, 2, 1]];
+    for prev_lsp in [MEAN, [i16::MIN; LSPS], [i16::MAX; LSPS]] {
+        for rows in (0..=255).map(|row| [row; INDEX_BYTES]).chain(orders) {
+            let expected = text(candidates(rows, &prev_lsp));
+            assert_eq!(answer(&index_question(rows, &prev_lsp)), expected);
+        }
+    }
+}
+
+#[test]
+fn the_distance_of_a_previous_lsp_saturates() {
+    let zero = |prev_lsp| answer(&index_question([0; INDEX_BYTES], &prev_lsp));
+    // A distance of -32768, the least one.
+    let first = MEAN.map(|lsp| (i64::from(lsp) + LEAST) as i16);
+    let least = text(MEAN.map(|lsp| lsp - 12_288));
+    assert_ne!(zero(first.map(|lsp| lsp + 3)), least);
+    assert_eq!(zero(first), least);
+    assert_eq!(zero(first.map(|lsp| lsp - 1)), least);
+    assert_eq!(zero([i16::MIN; LSPS]), least);
 }
 
 #[test]
@@ -173,6 +208,10 @@ fn what_is_no_question() {
         "mpmlq_fixed_vector 0 0 0 5 24 1 18",
         "mpmlq_fixed_vector 0 0 0 5 0 2 18",
         "lsp_interpolate -1",
+        "lsp_decode 0 0 0",
+        "lsp_decode 0 0 0 0 0 0 0 0 0 0 0",
+        "lsp_decode 256 0 0 0 0 0 0 0 0 0 0 0 0",
+        "lsp_decode 0 0 -1 0 0 0 0 0 0 0 0 0 0",
         "shl 1 -2147483648 0",
     ] {
         assert_eq!(answer(question), "?", "{question:?}");
@@ -182,9 +221,9 @@ fn what_is_no_question() {
 #[test]
 fn an_erased_frame_as_a_question() {
     let list = state::to_numbers(&state_with(AT_UNVOICED_GAIN, 500));
-    let question = format!("decode_erased {}", crate::numbers::text(&list));
+    let question = format!("decode_erased {}", text(&list));
     let mut state = state_with(AT_UNVOICED_GAIN, 500);
     let samples = state.decode_erased().map(i128::from).into_iter();
-    let expected = crate::numbers::text(samples.chain(state::to_numbers(&state)));
+    let expected = text(samples.chain(state::to_numbers(&state)));
     assert_eq!(answer(&question), expected);
 }

@@ -24,6 +24,26 @@ fn what_a_line_is() {
 }
 
 #[test]
+fn a_kind_alone() {
+    for kind in RECEIVED {
+        assert_eq!(printed(hexadecimal(&[kind])), "R05\nN05 1\n");
+    }
+    assert_eq!(printed("05"), "R04\nN04 1\n");
+    assert_eq!(printed("ff"), "R04\nN04 1\n");
+}
+
+#[test]
+fn index_0_is_answered_as_the_mean_lsps() {
+    for kinds in [HIGHS, LOWS] {
+        let [values, index] = kinds.map(|kind| {
+            let bytes = with(&record(kind), FIELD_BLOCKS + BLOCK_GAIN, GAIN_MOST);
+            printed_from(state::fresh(true), hexadecimal(&bytes), true)
+        });
+        assert_eq!(values, index);
+    }
+}
+
+#[test]
 fn what_is_not_digit_pairs() {
     let lines = [
         "0", "000", "00\r", " 00", "00 ", "0 0", "+0", "-1", "0x00", "0g", "G0", "@@", "``", "//",
@@ -39,9 +59,10 @@ fn what_is_not_digit_pairs() {
 #[test]
 fn either_letter_case() {
     let mut bytes = high();
-    bytes[BYTE_BLOCKS..][..BLOCK_GAIN].fill(0xAB);
-    bytes[BYTE_BLOCKS + BLOCK_GAIN] = GAIN_MOST;
-    bytes[BYTE_BLOCKS + BLOCK_CODE..][..3].copy_from_slice(&[0x0A, 0xBC, 0xDE]);
+    let block = &mut fields(&mut bytes)[FIELD_BLOCKS..];
+    block[..BLOCK_GAIN].fill(0xAB);
+    block[BLOCK_GAIN] = GAIN_MOST;
+    block[BLOCK_CODE..][..3].copy_from_slice(&[0x0A, 0xBC, 0xDE]);
     let line = hexadecimal(&bytes);
     let mixed: String = line
         .chars()
@@ -66,16 +87,16 @@ fn either_letter_case() {
 fn the_longest_line() {
     assert_eq!(printed(hexadecimal(&low())), silence());
     assert_eq!(printed("0".repeat(LONGEST_LINE)), "R05\nN05 1\n");
-    assert_eq!(printed("09".repeat(LOW_LENGTH)), "R04\nN04 1\n");
+    assert_eq!(printed("09".repeat(LONGEST_LINE / 2)), "R04\nN04 1\n");
     for length in [LONGEST_LINE + 1, LONGEST_LINE + 2, LONGEST_LINE + 4, 70_000] {
         assert_eq!(printed("0".repeat(length)), "R11\nN11 1\n");
     }
-    assert_eq!(printed("09".repeat(LOW_LENGTH + 1)), "R11\nN11 1\n");
+    assert_eq!(printed("09".repeat(LONGEST_LINE / 2 + 1)), "R11\nN11 1\n");
 }
 
 #[test]
 fn counts_come_in_ascending_order() {
-    let line = hexadecimal(&with(&high(), BYTE_BLOCKS + BLOCK_SIGNS, 1 << PULSES[0]));
+    let line = hexadecimal(&with(&high(), FIELD_BLOCKS + BLOCK_SIGNS, 1 << PULSES[0]));
     let input = format!("0\n{line}\n09\n\n09\n00\nxx\n");
     let expected = "R11\nR10\nR04\nR03\nR04\n".to_string() + &silence();
     assert_eq!(
@@ -96,7 +117,7 @@ fn number_11_comes_before_number_2() {
 
 #[test]
 fn refused_lines_change_no_state() {
-    let bytes = with(&high(), BYTE_BLOCKS + BLOCK_GAIN, 20);
+    let bytes = with(&high(), FIELD_BLOCKS + BLOCK_GAIN, 20);
     let frame = hexadecimal(&bytes);
     let between = format!("{frame}\n09\n00\n0\n\n{frame}\n");
     let heard: Vec<String> = printed(between)
@@ -127,8 +148,8 @@ fn states_follow_each_answer() {
 
 #[test]
 fn a_state_read_again_continues_the_run() {
-    let mut bytes = with(&high(), BYTE_BLOCKS + BLOCK_GAIN, GAIN_MOST);
-    bytes[BYTE_BLOCKS..][..BLOCK_GAIN].fill(0x0F);
+    let mut bytes = with(&high(), FIELD_BLOCKS + BLOCK_GAIN, GAIN_MOST);
+    fields(&mut bytes)[FIELD_BLOCKS..][..BLOCK_GAIN].fill(0x0F);
     let frame = hexadecimal(&bytes);
     let whole = printed_from(state::fresh(true), format!("{frame}\n{frame}\n00\n"), true);
     let lines: Vec<&str> = whole.lines().collect();
