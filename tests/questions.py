@@ -235,7 +235,7 @@ def lsps(rng):
     for p in vectors:
         for minimum in MINIMA:
             ask("lsp_stability", minimum, *p)
-    for p in plain[::10] + EXTREME:
+    for p in plain[::5] + EXTREME:
         for minimum in OTHER_MINIMA:
             ask("lsp_stability", minimum, *p)
     for p in vectors[::2]:
@@ -243,9 +243,9 @@ def lsps(rng):
     for p in plain:
         ask("lsp_extrapolate", *p)
         ask("lsp_to_lpc_q13", *p)
-    for p in FLOORED + [ordered(rng) for _ in range(100)]:
+    for p in FLOORED + [ordered(rng) for _ in range(200)]:
         ask("lsp_to_lpc_q13", *p)
-    pairs = [(a, b) for a in EXTREME for b in EXTREME] + [(rng.choice(plain), rng.choice(plain)) for _ in range(60)]
+    pairs = [(a, b) for a in EXTREME for b in EXTREME] + [(rng.choice(plain), rng.choice(plain)) for _ in range(150)]
     for a, b in pairs:
         ask("frame_lpc_q13", *a, *b)
     for a, b in pairs[::2]:
@@ -346,7 +346,7 @@ def descriptions(rng):
         for code in [0, limit - 1, limit, limit + 1] + LONG_CODES:
             for train in (0, 1):
                 vector(code, 2**n - 1, 1, n, 5, train, 20)
-        for _ in range(75):
+        for _ in range(150):
             vector(*description(rng, n), rng.randrange(2), rng.randrange(FIRST_LAG, TRAIN_LAG))
 
 

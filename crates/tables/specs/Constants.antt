@@ -1,4 +1,4 @@
--- The constants of document 01, for definitions; src/lib.rt has them for code, in the same order (tests/compare-tables). Units that code has as shifts stand here alone.
+-- The constants of document 01, for definitions; src/lib.rt has them for code, in the same order (tests/compare-tables). Units that code has as shifts, and the rows of a codebook, which code has in the length of an array, stand here alone.
 use Prim.Native.Nat.{ℕ}
 
 -- ---- sizes (document 01, "Constants")
