@@ -27,7 +27,7 @@ words b i n = tabulate (λ k. word b (i + 2 * k)) n
 
 -- ---- candidates and lags
 
--- bytes 1 to 20: ten candidate LSPs
+-- bytes 1 to 20 of a record with values: ten candidate LSPs
 abbrev pub candidates : List ℕ → List ℤ
 candidates r = words r lspsPlace lpcOrder
 
@@ -47,7 +47,7 @@ lag f Three = pos (baseLag f Three) +ℤ step (byte f step3Place)
 
 -- ---- blocks
 
--- both kinds: five taps and a gain index
+-- both rates: five taps and a gain index
 abbrev pub taps : Rate → List ℕ → Subframe → List ℤ
 taps rate f s = words f (blockPlace rate s) acbTaps
 

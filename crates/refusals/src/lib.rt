@@ -6,7 +6,7 @@ ghost use Rattle.tables.specs.Constants.{gainIndexMax};
 ghost use Rattle.reader.specs.Fields.{byte};
 ghost use Rattle.layout.specs.Layout.{fieldsOf};
 ghost use Rattle.record.specs.Record.{gainIndex};
-ghost use Rattle.refusals.specs.Refusals.{recordBytes, wrongLagCode, wrongStepCode, wrongGainIndex, wrongFlagsIn, wrongFlags, wrongSignsIn, wrongSigns, foundReceived, found, numberFound, IsKind, recordNumber};
+ghost use Rattle.refusals.specs.Refusals.{recordBytes, wrongLagCode, wrongStepCode, wrongGainIndex, wrongFlagsIn, wrongFlags, wrongSignsIn, wrongSigns, foundReceived, found, numberFound, kindOf, IsKind, recordNumber};
 use excitation::Rate;
 use excitation::Subframe;
 use layout::LspForm;
@@ -147,7 +147,8 @@ fn any_signs_wrong(fields: &[u8], rate: Rate) -> bool
 
 // Numbers 6 to 10.
 fn received_found(fields: &[u8], rate: Rate, form: LspForm) -> Found
-    ensures { λ r. ⌜ r ≡ foundReceived rate form (now (fields .entry)) ⌝ }
+    ensures answer { λ r. ⌜ r ≡ foundReceived rate form (now (fields .entry)) ⌝ }
+    ensures kind { λ r. ⌜ IsKind r (kindOf rate form) ⌝ }
 {
     if lag_code_above(fields) {
         return Found::Refused(Refusal::LagCode);
@@ -169,7 +170,8 @@ fn received_found(fields: &[u8], rate: Rate, form: LspForm) -> Found
 
 // The same of a record, by its fields.
 fn record_found(record: &[u8], rate: Rate, form: LspForm) -> Found
-    ensures { λ r. ⌜ r ≡ foundReceived rate form (fieldsOf form (now («record» .entry))) ⌝ }
+    ensures answer { λ r. ⌜ r ≡ foundReceived rate form (fieldsOf form (now («record» .entry))) ⌝ }
+    ensures kind { λ r. ⌜ IsKind r (kindOf rate form) ⌝ }
 {
     received_found(layout::fields(record, form), rate, form)
 }

@@ -1,14 +1,14 @@
--- What holds of a record to which none of the numbers 6 to 10 applies: its lag and step codes, and of a High one the pulse descriptions.
-use mathlib.Core.Path.{_≡_, sym, ap, _∙_}
-use mathlib.Core.Bool.{Bool, true, false, _&&_, _||_}
+-- What holds of a record that is received: none of the numbers 6 to 10 applies, and so its lag and step codes are in their limits, and of a High one the pulse descriptions are accepted ones.
+use mathlib.Core.Path.{_≡_, refl, sym, ap, _∙_, subst}
+use mathlib.Core.Bool.{Bool, true, false, cond, _&&_, _||_}
 use mathlib.Core.List.{List}
-use Prim.Native.Nat.{ℕ, _^_, _≤_, _<_}
+use Prim.Native.Nat.{ℕ, zero, suc, _^_, _≤_, _<_}
 use native.Mathlib.Omega.{arith}
 use borrow.Author.Tests.{ltb-false, leb-false}
 use lib.Dec.{ltb, leb}
 use Rattle.tables.specs.Constants.{lagAPlace, lagBPlace, step1Place, step3Place, lagCodeMax, stepCodeMax, gainIndexMax, flagsMax, trainLagLimit}
 use Rattle.excitation.specs.declared.Rate.{Rate}
-use Rattle.excitation.specs.declared.Rate.the-variants.{High}
+use Rattle.excitation.specs.declared.Rate.the-variants.{High, Low}
 use Rattle.positions.specs.Positions.{pulses}
 use Rattle.vectors.specs.Vectors.{Accepted}
 use Rattle.excitation.specs.declared.Subframe.{Subframe}
@@ -16,9 +16,65 @@ use Rattle.excitation.specs.declared.Subframe.the-variants.{Zero, One, Two, Thr
 use Rattle.reader.specs.Fields.{byte}
 use Rattle.record.specs.Record.{baseLag, gainIndex, train, count, description}
 use Rattle.record.specs.Record.{flags as flagsOf, signs as signsOf}
-use Rattle.refusals.specs.Refusals.{anySubframe, wrongFlagsIn, wrongSignsIn}
-use Rattle.refusals.proofs.Received.{Passed}
+use Rattle.layout.specs.Layout.{fieldsOf}
+use Rattle.layout.specs.declared.LspForm.{LspForm}
+use Rattle.layout.specs.declared.LspForm.the-variants.{Values, Index}
+use Rattle.numbers.specs.declared.Refusal.{Refusal}
+use Rattle.refusals.specs.declared.Found.{Found}
+use Rattle.refusals.specs.declared.Found.the-variants.{Erased, Received, Refused}
+use Rattle.refusals.specs.Refusals.{noByte, wrongKind, wrongLength, wrongLagCode, wrongStepCode, wrongGainIndex, wrongFlags, wrongSigns}
+use Rattle.refusals.specs.Refusals.{anySubframe, wrongFlagsIn, wrongSignsIn, foundReceived, foundOf, found}
 use Rattle.integers.specs.Truth.{neither}
+
+-- ---- the tests that it passed
+
+pub record Passed (rate : Rate) (f : List ℕ) : Type 0 where
+  pub lags : wrongLagCode f ≡ false
+  pub steps : wrongStepCode f ≡ false
+  pub gains : wrongGainIndex rate f ≡ false
+  pub flags : wrongFlags rate f ≡ false
+  pub signs : wrongSigns rate f ≡ false
+
+module _ (r : List ℕ) where
+  abbrev AllPassed : Found → Type 0
+  AllPassed Erased = Unit
+  AllPassed (Received rate form) = Passed rate (fieldsOf form r)
+  AllPassed (Refused n) = Unit
+
+  -- a record that is found to be k passed all that k says
+  record FoundToBe (k : Found) : Type 0 where
+    passed : AllPassed k
+
+  -- a refusal says nothing, and where its test fails the rest has to hold
+  refused-or : (b : Bool) (n : Refusal) {k : Found} → (b ≡ false → FoundToBe k) → FoundToBe (cond b (Refused n) k)
+  refused-or true n h = record { passed = tt }
+  refused-or false n h = h refl
+
+  passed-fields : (rate : Rate) (form : LspForm) → FoundToBe (foundReceived rate form (fieldsOf form r))
+  unfolding foundReceived
+  passed-fields rate form =
+      let f = fieldsOf form r in
+      refused-or (wrongLagCode f) _ (λ l. refused-or (wrongStepCode f) _ (λ s. refused-or (wrongGainIndex rate f) _
+      (λ g. refused-or (wrongFlags rate f) _ (λ k. refused-or (wrongSigns rate f) _
+      (λ n. record { passed = record { lags = l; steps = s; gains = g; flags = k; signs = n } })))))
+
+  passed-kind : (kind : ℕ) → FoundToBe (foundOf kind r)
+  unfolding foundOf
+  passed-kind zero = record { passed = tt }
+  passed-kind (suc zero) = passed-fields High Values
+  passed-kind (suc (suc zero)) = passed-fields Low Values
+  passed-kind (suc (suc (suc zero))) = passed-fields High Index
+  passed-kind (suc (suc (suc (suc n)))) = passed-fields Low Index
+
+  passed-found : FoundToBe (found r)
+  unfolding found
+  passed-found =
+      refused-or (noByte r) _ (λ _. refused-or (wrongKind r) _ (λ _. refused-or (wrongLength r) _ (λ _. passed-kind (byte r 0))))
+
+  pub received-passed : (rate : Rate) (form : LspForm) → found r ≡ Received rate form → Passed rate (fieldsOf form r)
+  received-passed rate form e = subst FoundToBe e passed-found .passed
+
+-- ---- its codes
 
 pub record Codes (f : List ℕ) : Type 0 where
   pub lag-a : byte f lagAPlace ≤ lagCodeMax

@@ -18,8 +18,7 @@ use Rattle.voicing.specs.Voicing.{voicingOf}
 use Rattle.layout.specs.Layout.{fieldsOf}
 use Rattle.record.specs.Record.{blockOf}
 use Rattle.refusals.specs.Refusals.{found}
-use Rattle.refusals.proofs.Received.{received-passed}
-use Rattle.theorems.proofs.Accepted.{Codes, codes}
+use Rattle.theorems.proofs.Accepted.{received-passed, Codes, codes}
 use Rattle.numbers.specs.declared.Refusal.the-variants.{SampleLength, StateBounds}
 use Rattle.refusals.specs.declared.Found.{Found}
 use Rattle.refusals.specs.declared.Found.the-variants.{Erased, Received, Refused}

@@ -3,8 +3,7 @@ use mathlib.Core.Path.{refl}
 use Rattle.record.specs.Record.{blockOf}
 use Rattle.excitation.specs.declared.Rate.the-variants.{High}
 use Rattle.layout.specs.Layout.{fieldsOf}
-use Rattle.refusals.proofs.Received.{received-passed}
-use Rattle.theorems.proofs.Accepted.{accepted-description}
+use Rattle.theorems.proofs.Accepted.{received-passed, accepted-description}
 use Rattle.theorems.specs.Descriptions.{AcceptedDescriptions}
 
 pub accepted-descriptions : AcceptedDescriptions

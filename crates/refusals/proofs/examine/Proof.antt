@@ -7,19 +7,23 @@ use lib.Dec.{ltb, eqb}
 use lib.ListN.{length}
 use Rattle.tables.specs.Constants.{kindMax}
 use Rattle.reader.specs.Fields.{byte}
+use Rattle.numbers.specs.declared.Refusal.{Refusal}
 use Rattle.numbers.specs.declared.Refusal.the-variants.{NoByte, Kind, Length}
 use Rattle.refusals.specs.declared.Found.{Found}
-use Rattle.refusals.specs.declared.Found.the-variants.{Refused}
+use Rattle.refusals.specs.declared.Found.the-variants.{Erased, Refused}
 use Rattle.refusals.specs.Refusals.{wrongLength, recordBytes, foundOf, found, numberFound, IsKind, recordNumber}
 use Rattle.integers.specs.Truth.{cond-here, cond-there}
-use Rattle.refusals.proofs.Arms.{from-four}
-use Rattle.refusals.proofs.Received.{kind-found}
+use Rattle.refusals.proofs.Arms.{last-kind}
 use Rattle.refusals.proofs.examine.Statement.{statement}
 use Rattle.refusals.proofs.examine.Tie as tie
 
--- all that `examine` promises follows from what is found
-promised : (s : List ℕ) {x : Found} → x ≡ found s → (x ≡ found s) × ((numberFound x ≡ recordNumber s) × IsKind x (byte s 0))
-promised s e = (e, (ap numberFound e, subst (λ (f : Found). IsKind f (byte s 0)) (sym e) (kind-found s)))
+-- all that `examine` promises of x
+abbrev Promised : List ℕ → Found → Type 0
+Promised s x = (x ≡ found s) × ((numberFound x ≡ recordNumber s) × IsKind x (byte s 0))
+
+-- a refusal goes with any kind byte
+refused : (s : List ℕ) (n : Refusal) → Refused n ≡ found s → Promised s (Refused n)
+refused s n e = (e, (ap numberFound e, tt))
 
 -- ---- the ways out
 
@@ -29,7 +33,7 @@ unfolding found
 none c = cond-here _ _ refl (eq-eqb (length (c .before .before .args .«record» .now)) 0 (c .if1 .taken))
 
 returns : tie.Need-returns
-returns c = promised (c .before .before .args .«record» .now) (none c)
+returns c = refused (c .before .before .args .«record» .now) NoByte (none c)
 
 byte-field-requires : tie.Need-byte-field-requires
 byte-field-requires c κs = tt
@@ -46,7 +50,7 @@ unknown c =
     (cond-here _ _ (ap (ltb kindMax) (k .byte-field .ensures)) (lt-ltb kindMax (k .byte-field .result) (c .if2 .taken)))
 
 returns-2 : tie.Need-returns-2
-returns-2 c = promised (r (c .before)) (unknown c)
+returns-2 c = refused (r (c .before)) Kind (unknown c)
 
 record-bytes-requires : tie.Need-record-bytes-requires
 record-bytes-requires c κs = tt
@@ -70,7 +74,7 @@ returns-3 : tie.Need-returns-3
 returns-3 c =
     let b = c .before in
     let h = ne-eqb (length (r (b .before .before))) (b .record-bytes .result) (c .if3 .taken) in
-    promised (r (b .before .before)) (past-kind (b .before) (cond-here _ _ (length-test b) (ap not h)))
+    refused (r (b .before .before)) Length (past-kind (b .before) (cond-here _ _ (length-test b) (ap not h)))
 
 -- nor does number 5
 of-kind : (c : tie.Else3) {n : ℕ} → let k = c .before .before .before in
@@ -94,34 +98,39 @@ record-found-requires-3 c κs = tt
 record-found-requires-4 : tie.Need-record-found-requires-4
 record-found-requires-4 c κs = tt
 
--- what a kind's arm answers is promised where it is what is found of that kind
-arm : (c : tie.Else3) {n : ℕ} {x : Found} → let k = c .before .before .before in
-    k .byte-field .result ≡ n → x ≡ foundOf n (r k) → (x ≡ found (r k)) × ((numberFound x ≡ recordNumber (r k)) × IsKind x (byte (r k) 0))
-arm c e h = promised (r (c .before .before .before)) (h ∙ of-kind c e)
+-- the arm of a kind: what is found of that kind, and goes with it
+arm : (c : tie.Else3) {n : ℕ} (x : Found) → let k = c .before .before .before in
+    k .byte-field .result ≡ n → x ≡ foundOf n (r k) → IsKind x n → Promised (r k) x
+arm c x e h g =
+    let k = c .before .before .before in
+    let f = h ∙ of-kind c e in
+    (f, (ap numberFound f, subst (IsKind x) (sym e ∙ k .byte-field .ensures) g))
 
 returns-4 : tie.Need-returns-4
 unfolding foundOf
-returns-4 c = arm (c .before) (c .match .keys1) refl
+returns-4 c = arm (c .before) Erased (c .match .keys1) refl refl
 
 returns-5 : tie.Need-returns-5
 unfolding foundOf
-returns-5 c = let m = c .before in arm (m .before) (m .match .keys2) (c .record-found .ensures)
+returns-5 c = let m = c .before in let f = c .record-found in arm (m .before) (f .result) (m .match .keys2) (f .ensures .0) (f .ensures .1)
 
 returns-6 : tie.Need-returns-6
 unfolding foundOf
-returns-6 c = let m = c .before in arm (m .before) (m .match .keys3) (c .record-found2 .ensures)
+returns-6 c = let m = c .before in let f = c .record-found2 in arm (m .before) (f .result) (m .match .keys3) (f .ensures .0) (f .ensures .1)
 
 returns-7 : tie.Need-returns-7
 unfolding foundOf
-returns-7 c = let m = c .before in arm (m .before) (m .match .keys4) (c .record-found3 .ensures)
+returns-7 c = let m = c .before in let f = c .record-found3 in arm (m .before) (f .result) (m .match .keys4) (f .ensures .0) (f .ensures .1)
 
 returns-8 : tie.Need-returns-8
 unfolding foundOf
 returns-8 c =
     let m = c .before in
-    let k = m .before .before .before .before .byte-field .result in
+    let f = c .record-found4 in
+    let e = m .before .before in
     let o = m .match .rest in
-    arm (m .before) (from-four k (o .0 .0 .0 .1) (o .0 .0 .1) (o .0 .1) (o .1) .1) (c .record-found4 .ensures)
+    arm (m .before) (f .result) (last-kind (e .before .before .byte-field .result) (o .0 .0 .0 .1) (o .0 .0 .1) (o .0 .1) (o .1) (e .before .if2 .left))
+    (f .ensures .0) (f .ensures .1)
 
 pub examine-spec : {M : Type 1} → statement M
 examine-spec =

@@ -15,7 +15,7 @@ lag-code-above-requires c κs = tt
 
 returns : tie.Need-returns
 unfolding foundReceived
-returns c = cond-here _ _ (c .before .lag-code-above .ensures) (c .if1 .taken)
+returns c = (cond-here _ _ (c .before .lag-code-above .ensures) (c .if1 .taken), tt)
 
 step-code-above-requires : tie.Need-step-code-above-requires
 step-code-above-requires c κs = tt
@@ -23,9 +23,11 @@ step-code-above-requires c κs = tt
 returns-2 : tie.Need-returns-2
 unfolding foundReceived
 returns-2 c =
-    let l = c .before .before in
-    cond-there _ (l .before .lag-code-above .ensures) (l .if1 .left)
-    (cond-here _ _ (c .before .step-code-above .ensures) (c .if2 .taken))
+    let l = c .before .before in (
+      cond-there _ (l .before .lag-code-above .ensures) (l .if1 .left)
+          (cond-here _ _ (c .before .step-code-above .ensures) (c .if2 .taken)),
+      tt,
+    )
 
 any-gain-above-requires : tie.Need-any-gain-above-requires
 any-gain-above-requires c κs = tt
@@ -34,10 +36,12 @@ returns-3 : tie.Need-returns-3
 unfolding foundReceived
 returns-3 c =
     let s = c .before .before in
-    let l = s .before .before in
-    cond-there _ (l .before .lag-code-above .ensures) (l .if1 .left)
-    (cond-there _ (s .before .step-code-above .ensures) (s .if2 .left)
-    (cond-here _ _ (c .before .any-gain-above .ensures) (c .if3 .taken)))
+    let l = s .before .before in (
+      cond-there _ (l .before .lag-code-above .ensures) (l .if1 .left)
+          (cond-there _ (s .before .step-code-above .ensures) (s .if2 .left)
+          (cond-here _ _ (c .before .any-gain-above .ensures) (c .if3 .taken))),
+      tt,
+    )
 
 -- numbers 6 to 8 do not apply
 past-gain : (c : tie.Else3) {y : Found} → let a = c .before .before .before .before .before .before .before .args in
@@ -55,24 +59,28 @@ any-flags-wrong-requires : tie.Need-any-flags-wrong-requires
 any-flags-wrong-requires c κs = tt
 
 returns-4 : tie.Need-returns-4
-returns-4 c = past-gain (c .before .before) (cond-here _ _ (c .before .any-flags-wrong .ensures) (c .if4 .taken))
+returns-4 c = (past-gain (c .before .before) (cond-here _ _ (c .before .any-flags-wrong .ensures) (c .if4 .taken)), tt)
 
 any-signs-wrong-requires : tie.Need-any-signs-wrong-requires
 any-signs-wrong-requires c κs = tt
 
 returns-5 : tie.Need-returns-5
 returns-5 c =
-    let f = c .before .before in
-    past-gain (f .before .before)
-    (cond-there _ (f .before .any-flags-wrong .ensures) (f .if4 .left)
-    (cond-here _ _ (c .before .any-signs-wrong .ensures) (c .if5 .taken)))
+    let f = c .before .before in (
+      past-gain (f .before .before)
+          (cond-there _ (f .before .any-flags-wrong .ensures) (f .if4 .left)
+          (cond-here _ _ (c .before .any-signs-wrong .ensures) (c .if5 .taken))),
+      tt,
+    )
 
 returns-6 : tie.Need-returns-6
 returns-6 c =
-    let f = c .before .before in
-    past-gain (f .before .before)
-    (cond-there _ (f .before .any-flags-wrong .ensures) (f .if4 .left)
-    (cond-there _ (c .before .any-signs-wrong .ensures) (c .if5 .left) refl))
+    let f = c .before .before in (
+      past-gain (f .before .before)
+          (cond-there _ (f .before .any-flags-wrong .ensures) (f .if4 .left)
+          (cond-there _ (c .before .any-signs-wrong .ensures) (c .if5 .left) refl)),
+      refl,
+    )
 
 pub received-found-spec : {M : Type 1} → statement M
 received-found-spec =

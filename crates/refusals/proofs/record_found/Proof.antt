@@ -12,7 +12,8 @@ received-found-requires c κs = tt
 returns : tie.Need-returns
 returns c =
     let a = c .before .before .before .args in
-    c .received-found .ensures ∙ ap (foundReceived (a .rate) (a .form)) (c .before .fields .ensures)
+    let f = c .received-found .ensures in
+    (f .0 ∙ ap (foundReceived (a .rate) (a .form)) (c .before .fields .ensures), f .1)
 
 pub record-found-spec : {M : Type 1} → statement M
 record-found-spec = tie.close (tie.spec fields-requires received-found-requires returns)
