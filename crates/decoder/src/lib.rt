@@ -85,7 +85,7 @@ fn received_subframe(signal: [i16; 386], s: Subframe, b: Block) -> [i16; 386]
     excitation::push_excitation(signal, s, e)
 }
 
-// The end of a frame: its samples, and the next state.
+// The end of a frame: its samples, and the answer with the next state.
 fn finish_frame(
     samples: &mut [i16],
     given: State,
@@ -93,10 +93,10 @@ fn finish_frame(
     signal: [i16; 386],
     inputs: [[i32; 60]; 4],
     last: LastFrame,
-) -> State
+) -> Answer
     requires { ⌜ length (now samples) ≡ 240 ⌝ }
     requires { ⌜ inBounds given ≡ true ⌝ }
-    ensures state { λ r. ⌜ r ≡ frameState given lsps inputs signal last ⌝ }
+    ensures answer { λ r. ⌜ r ≡ acceptance (frameState given lsps inputs signal last) ⌝ }
     ensures samples { λ r. ⌜ now (samples .exit) ≡ frameSamples given lsps inputs ⌝ }
 {
     let prev = given.prev_lsp;
@@ -114,7 +114,7 @@ fn finish_frame(
     let narrow = f.syn_mem;
     let after = widths::widen_memory(narrow);
     let pf_after = f.pf;
-    State {
+    let next = State {
         prev_lsp: lsps,
         exc_hist: history,
         syn_mem: after,
@@ -126,14 +126,18 @@ fn finish_frame(
         pcm_hist: tail,
         erased_run: last.erased_run,
         postfilter: given.postfilter,
+    };
+    Answer {
+        verdict: Verdict::Accepted,
+        state: next,
     }
 }
 
 // The Rust's decode_erased.
-fn decode_erased(samples: &mut [i16], given: State) -> State
+fn decode_erased(samples: &mut [i16], given: State) -> Answer
     requires { ⌜ length (now samples) ≡ 240 ⌝ }
     requires { ⌜ inBounds given ≡ true ⌝ }
-    ensures state { λ r. ⌜ r ≡ erasedState given ⌝ }
+    ensures answer { λ r. ⌜ r ≡ acceptance (erasedState given) ⌝ }
     ensures samples { λ r. ⌜ now (samples .exit) ≡ erasedSamples given ⌝ }
 {
     let run = noise::next_run(given.erased_run);
@@ -184,10 +188,10 @@ fn decode_received(
     rate: Rate,
     fields: &[u8],
     candidates: [i16; 10],
-) -> State
+) -> Answer
     requires { ⌜ length (now samples) ≡ 240 ⌝ }
     requires { ⌜ inBounds given ≡ true ⌝ }
-    ensures state { λ r. ⌜ r ≡ receivedState given rate (now (fields .entry)) candidates ⌝ }
+    ensures answer { λ r. ⌜ r ≡ acceptance (receivedState given rate (now (fields .entry)) candidates) ⌝ }
     ensures samples { λ r. ⌜ now (samples .exit) ≡ receivedSamples given rate (now (fields .entry)) candidates ⌝ }
 {
     let prev = given.prev_lsp;
@@ -224,15 +228,6 @@ fn refused(given: State, n: Refusal) -> Answer
     }
 }
 
-fn accepted(next: State) -> Answer
-    ensures { λ r. ⌜ r ≡ acceptance next ⌝ }
-{
-    Answer {
-        verdict: Verdict::Accepted,
-        state: next,
-    }
-}
-
 // Nothing is written before the last test. The number is in the answer too; it is promised by itself for who reads numbers.
 pub fn decode(given: State, record: &[u8], samples: &mut [i16]) -> Answer
     ensures answer { λ r. ⌜ r ≡ answerOf given (now («record» .entry)) (now (samples .entry)) ⌝ }
@@ -247,16 +242,12 @@ pub fn decode(given: State, record: &[u8], samples: &mut [i16]) -> Answer
     }
     match refusals::examine(record) {
         Found::Refused(n) => refused(given, n),
-        Found::Erased => {
-            let next = decode_erased(samples, given);
-            accepted(next)
-        }
+        Found::Erased => decode_erased(samples, given),
         Found::Received(rate, form) => {
             let prev = given.prev_lsp;
             let candidates = candidates_of(record, form, prev);
             let fields = layout::fields(record, form);
-            let next = decode_received(samples, given, rate, fields, candidates);
-            accepted(next)
+            decode_received(samples, given, rate, fields, candidates)
         }
     }
 }

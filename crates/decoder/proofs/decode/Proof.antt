@@ -1,4 +1,4 @@
-use mathlib.Core.Path.{_≡_, sym, ap, _∙_}
+use mathlib.Core.Path.{_≡_, sym, _∙_}
 use mathlib.Core.Bool.{true}
 use borrow.Author.Needs.{needs}
 use lib.ListN.{length}
@@ -76,9 +76,6 @@ enum-told c = search needs
 decode-erased-requires : tie.Need-decode-erased-requires
 decode-erased-requires c κs = let e = c .before .before .before in (whole e, sound e)
 
-accepted-requires : tie.Need-accepted-requires
-accepted-requires c κs = tt
-
 enum-known-rate : tie.Need-enum-known-rate
 enum-known-rate c = search needs
 
@@ -91,9 +88,6 @@ fields-requires c κs = tt
 decode-received-requires : tie.Need-decode-received-requires
 decode-received-requires c κs = let e = c .before .before .before .before .before .before .before in (whole e, sound e)
 
-accepted-requires-2 : tie.Need-accepted-requires-2
-accepted-requires-2 c κs = tt
-
 returns-3 : tie.Need-returns-3
 returns-3 c =
     let n = c .before .before in
@@ -103,33 +97,31 @@ returns-3 c =
     refused-promised (a .given) (a .«record» .now) (a .samples .now) (n .n .given .0 .0) found (c .refused3 .ensures)
 
 same-length : tie.Need-same-length
-same-length c = c .before .before .decode-erased .kept .0
+same-length c = c .before .decode-erased .kept .0
 
 returns-4 : tie.Need-returns-4
 returns-4 c =
-    let d = c .before .before in
-    let t = d .before .before in
+    let d = c .before .decode-erased in
+    let t = c .before .before .before in
     let e = t .before .before in
     let a = start e .args in
-    erased-promised (a .given) (a .«record» .now) (a .samples .now) (found-is e (t .enum-told .given .1))
-    (c .accepted .ensures ∙ ap acceptance (d .decode-erased .ensures .0)) (d .decode-erased .ensures .1)
+    erased-promised (a .given) (a .«record» .now) (a .samples .now) (found-is e (t .enum-told .given .1)) (d .ensures .0) (d .ensures .1)
 
 same-length-2 : tie.Need-same-length-2
-same-length-2 c = c .before .before .decode-received .kept .0
+same-length-2 c = c .before .decode-received .kept .0
 
 returns-5 : tie.Need-returns-5
 returns-5 c =
-    let d = c .before .before in
-    let f = d .before .before in
+    let f = c .before .before .before in
     let l = f .before in
     let t = l .before .before .before in
     let e = t .before .before in
     let a = start e .args in
     let rate = t .rate .given .0 .0 in
     let form = t .rate .given .0 .1 .0 in
-    let r = d .decode-received .ensures in
+    let r = c .before .decode-received .ensures in
     received-promised (a .given) (a .«record» .now) (a .samples .now) rate form (found-is e (t .rate .given .1))
-    (c .accepted2 .ensures ∙ ap acceptance (r .0 ∙ (λ i. receivedState (a .given) rate (f .fields .ensures i) (l .candidates-of .ensures i))))
+    (r .0 ∙ (λ i. acceptance (receivedState (a .given) rate (f .fields .ensures i) (l .candidates-of .ensures i))))
     (r .1 ∙ (λ i. receivedSamples (a .given) rate (f .fields .ensures i) (l .candidates-of .ensures i)))
 
 pub decode-spec : {M : Type 1} → statement M
@@ -146,12 +138,10 @@ decode-spec =
     refused-requires-3
     enum-told
     decode-erased-requires
-    accepted-requires
     enum-known-rate
     candidates-of-requires
     fields-requires
     decode-received-requires
-    accepted-requires-2
     returns-3
     same-length
     returns-4

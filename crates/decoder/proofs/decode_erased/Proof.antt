@@ -18,6 +18,7 @@ use Rattle.state.specs.declared.State.{State}
 use Rattle.state.proofs.Bounds.{signal-narrowed}
 use Rattle.decoder.specs.Frame.{plainInputs, frameSamples, frameState}
 use Rattle.decoder.specs.Frame.{erasedLsps, erasedSignal, erasedSamples, erasedState}
+use Rattle.decoder.specs.Decoder.{acceptance}
 use Rattle.decoder.proofs.Fields.{field-length, lag2-fits, taps-fits, gain-fits, lag2-natural}
 use Rattle.decoder.proofs.decode_erased.Statement.{statement}
 use Rattle.decoder.proofs.decode_erased.Tie as tie
@@ -137,13 +138,13 @@ returns c =
     let g = given (begin-of p) in
     let l = lsps-of (class-of (silent-of p)) in
     let told = t .struct-told4 .given .1 .1 .1 .1 in (
-      r .ensures .0 ∙ (λ i. frameState g (lsps-is l i) (inputs-is p i) (signal-is p i) record {
+      r .ensures .0 ∙ (λ i. acceptance (frameState g (lsps-is l i) (inputs-is p i) (signal-is p i) record {
         «last_lag» = read-back w32 (g .«last_lag») (told .0 .1) i;
         «last_lag2» = read-back w32 (g .«last_lag2») (told .1 .0 .1) i;
         «last_taps_sum_q15» = read-back w32 (g .«last_taps_sum_q15») (told .1 .1 .0 .1) i;
         «last_gain_unvoiced» = read-back w32 (g .«last_gain_unvoiced») (told .1 .1 .1 .0 .1) i;
         «erased_run» = l .before .before .before .next-run .ensures i;
-      }),
+      })),
       r .ensures .1 ∙ (λ i. frameSamples g (lsps-is l i) (inputs-is p i)),
     )
 

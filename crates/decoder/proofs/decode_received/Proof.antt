@@ -18,6 +18,7 @@ use Rattle.state.proofs.Bounds.{signal-narrowed}
 use Rattle.decoder.specs.Frame.{frameSamples, frameState, receivedTo}
 use Rattle.decoder.specs.Frame.{receivedLsps, receivedSignal, receivedInputs}
 use Rattle.decoder.specs.Frame.{receivedSamples, receivedState}
+use Rattle.decoder.specs.Decoder.{acceptance}
 use Rattle.decoder.proofs.Fields.{field-length}
 use Rattle.decoder.proofs.Frames.{in-turn, inputs-same}
 use Rattle.decoder.proofs.decode_received.Statement.{statement}
@@ -189,13 +190,13 @@ returns c =
     let sum = u .before .tap-sum in
     let gain = u .unvoiced-gain in
     let unvoiced : Block → Block → ℤ = λ p q. pos (unvoicedGain (p .«gain_index») (q .«gain_index»)) in (
-      r .ensures .0 ∙ (λ i. frameState g (lsps-is l i) (inputs-is n i) (x i) record {
+      r .ensures .0 ∙ (λ i. acceptance (frameState g (lsps-is l i) (inputs-is n i) (x i) record {
         «last_lag» = back w32 (t .before .struct-told5 .given .1 .0 .1) (λ j. b Three j .lag) i;
         «last_lag2» = back w32 (t .struct-told6 .given .1 .0 .1) (λ j. b Two j .lag) i;
         «last_taps_sum_q15» = back w32 (sum .ok) (sum .ensures ∙ (λ j. tapSum (b Three j .taps))) i;
         «last_gain_unvoiced» = back w32 (gain .ok) (gain .ensures ∙ (λ j. unvoiced (b Two j) (b Three j))) i;
         «erased_run» = 0;
-      }),
+      })),
       r .ensures .1 ∙ (λ i. frameSamples g (lsps-is l i) (inputs-is n i)),
     )
 

@@ -12,6 +12,7 @@ use Rattle.output.specs.Output.{frameOutput, frameFilters}
 use Rattle.output.specs.declared.Filters.{Filters}
 use Rattle.output.proofs.Frames.{filters-in, output-in}
 use Rattle.decoder.specs.Frame.{frameSamples, filtersLast, frameState}
+use Rattle.decoder.specs.Decoder.{acceptance}
 use Rattle.decoder.proofs.Fields.{field-length}
 use Rattle.decoder.proofs.finish_frame.Statement.{statement}
 use Rattle.decoder.proofs.finish_frame.Tie as tie
@@ -106,7 +107,7 @@ returns c =
     let told = c .struct-told .given in
     let size = output-length o in
     let tail = take-all 120 (drop 120 (written o)) (omega (arith, length-drop 120 (written o), size)) in (
-      (λ i. record {
+      (λ i. acceptance record {
         «prev_lsp» = a .lsps;
         «exc_hist» = h .history-after .ensures i;
         «syn_mem» = (w .widen-memory .ensures ∙ (λ j. f j .«syn_mem»)) i;
