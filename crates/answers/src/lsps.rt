@@ -35,7 +35,7 @@ fn led(buf: &mut [u8], n: u64, lead: Word, c: Cursor) -> Cursor {
     let mut q = [0i16; 10];
     let l = next_list(buf, k, &mut q);
     if n == names::LSP_CHECK_OR_PREVIOUS {
-        print_ten(stability::lsp_check_or_previous(p, q, number16(lead)));
+        print_stabilised(stability::lsp_check_or_previous(p, q, number16(lead)));
     } else {
         print_ten(lsp::lsp_interpolate(lead.size as usize, p, q));
     }

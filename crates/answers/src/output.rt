@@ -76,9 +76,10 @@ pub(crate) fn print_sets(a: [[i16; 10]; 4]) {
     end_line();
 }
 
-// Whether LSPs passed, and the LSPs.
+// The code of what was done to the candidates, and the LSPs.
 pub(crate) fn print_stabilised(s: stability::Stabilised) {
-    signed(if s.passed { 1 } else { 0 });
+    let outcome = s.outcome;
+    signed(stability::outcome_code(outcome) as i32);
     let p = s.lsps;
     list(&p, false);
     end_line();

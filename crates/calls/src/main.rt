@@ -5,19 +5,32 @@
 //   S   a state: 315 numbers of four bytes, in the fixed order of its fields
 //   D   a record: the first field is the length of the samples, each of which is the second field before
 //
-// The answer is a number, 0 but for a record that was refused, and the checksums of the samples and of the state.
+// The answer is a number, 0 but for a record that was refused, the code of what was done to the candidate LSPs (3 where there
+// is no frame), and the checksums of the samples and of the state.
 mod image;
 mod sums;
 mod text;
 
 use state::State;
 use text::Line;
+use verdict::Verdict;
 
-// The number and the samples' checksum, and the state after the line.
+// The number, the code of the outcome and the samples' checksum, and the state after the line.
 struct Turn {
     number: u8,
+    outcome: u8,
     sum: u64,
     state: State,
+}
+
+// The code where no frame was decoded.
+const NO_OUTCOME: u8 = 3;
+
+fn outcome_of(v: Verdict) -> u8 {
+    match v {
+        Verdict::Accepted(o) => stability::outcome_code(o),
+        Verdict::Refused(_) => NO_OUTCOME,
+    }
 }
 
 // The samples that are lent for a record, to its end.
@@ -26,7 +39,8 @@ fn record_turn(s: State, record: &[u8], samples: &mut [i16]) -> Turn {
     let v = a.verdict;
     let next = a.state;
     Turn {
-        number: numbers::verdict_number(v),
+        number: verdict::verdict_number(v),
+        outcome: outcome_of(v),
         sum: sums::sum16(0, samples),
         state: next,
     }
@@ -66,6 +80,7 @@ fn answered(line: Line, s: State) -> Turn {
     };
     Turn {
         number: 0,
+        outcome: NO_OUTCOME,
         sum: 0,
         state: next,
     }
@@ -73,6 +88,8 @@ fn answered(line: Line, s: State) -> Turn {
 
 fn print(t: Turn) {
     io::print_decimal(1, t.number as u64);
+    io::write_all(1, b" ");
+    io::print_decimal(1, t.outcome as u64);
     io::write_all(1, b" ");
     io::print_decimal(1, t.sum);
     io::write_all(1, b" ");

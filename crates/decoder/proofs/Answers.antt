@@ -10,7 +10,7 @@ use lib.IntN.{ℤ}
 use Rattle.excitation.specs.declared.Rate.{Rate}
 use Rattle.layout.specs.Layout.{fieldsOf}
 use Rattle.layout.specs.declared.LspForm.{LspForm}
-use Rattle.numbers.specs.Numbers.{numberOf}
+use Rattle.verdict.specs.Verdicts.{numberOf}
 use Rattle.refusals.specs.Refusals.{found, numberFound}
 use Rattle.numbers.specs.declared.Refusal.{Refusal}
 use Rattle.numbers.specs.declared.Refusal.the-variants.{SampleLength, StateBounds}
@@ -18,7 +18,7 @@ use Rattle.refusals.specs.declared.Found.{Found}
 use Rattle.refusals.specs.declared.Found.the-variants.{Erased, Received, Refused}
 use Rattle.state.specs.State.{inBounds}
 use Rattle.state.specs.declared.State.{State}
-use Rattle.decoder.specs.Frame.{candidatesOf, erasedSamples, erasedState, receivedSamples, receivedState}
+use Rattle.decoder.specs.Frame.{candidatesOf, erasedChecked, erasedSamples, erasedState, receivedChecked, receivedSamples, receivedState}
 use Rattle.decoder.specs.Decoder.{examined, refusal, acceptance, answerTo, samplesTo, answerOf, firstNumber, samplesOf}
 use Rattle.decoder.specs.declared.Answer.{Answer}
 
@@ -69,7 +69,7 @@ module _ (s : State) (r : List ℕ) (samples : List ℤ) where
   refused-promised n e p = promised (Refused n) e p refl
 
   pub erased-promised : examined s r samples ≡ Erased → {a : Answer} {o : List ℤ} →
-      a ≡ acceptance (erasedState s) → o ≡ erasedSamples s → Promised a o
+      a ≡ acceptance (erasedChecked s .outcome) (erasedState s) → o ≡ erasedSamples s → Promised a o
   unfolding answerTo samplesTo
   erased-promised e p q = promised Erased e p q
 
@@ -77,7 +77,7 @@ module _ (s : State) (r : List ℕ) (samples : List ℤ) where
   read form = candidatesOf form r (s .«prev_lsp»)
 
   pub received-promised : (rate : Rate) (form : LspForm) → examined s r samples ≡ Received rate form → {a : Answer} {o : List ℤ} →
-      a ≡ acceptance (receivedState s rate (fieldsOf form r) (read form)) →
+      a ≡ acceptance (receivedChecked s (read form) .outcome) (receivedState s rate (fieldsOf form r) (read form)) →
       o ≡ receivedSamples s rate (fieldsOf form r) (read form) → Promised a o
   unfolding answerTo samplesTo
   received-promised rate form e p q = promised (Received rate form) e p q

@@ -1,4 +1,4 @@
--- The decoder (document 01, "The ten numbers" and "Frame"): what it answers to a record, and what the samples that it was lent then hold, from any state, any bytes and any samples.
+-- The decoder (document 01, "The ten numbers" and "Frame"; document 02, E2): what it answers to a record, and what the samples that it was lent then hold, from any state, any bytes and any samples.
 use mathlib.Core.Bool.{cond, not}
 use mathlib.Core.List.{List}
 use Prim.Native.Nat.{ℕ}
@@ -12,10 +12,11 @@ use Rattle.numbers.specs.declared.Refusal.{Refusal}
 use Rattle.numbers.specs.declared.Refusal.the-variants.{SampleLength, StateBounds}
 use Rattle.refusals.specs.declared.Found.{Found}
 use Rattle.refusals.specs.declared.Found.the-variants.{Erased, Received, Refused}
-use Rattle.numbers.specs.declared.Verdict.the-variants as verdicts
+use Rattle.stability.specs.declared.Outcome.{Outcome}
+use Rattle.verdict.specs.declared.Verdict.the-variants as verdicts
 use Rattle.state.specs.State.{inBounds}
 use Rattle.state.specs.declared.State.{State}
-use Rattle.decoder.specs.Frame.{candidatesOf, erasedSamples, erasedState, receivedSamples, receivedState}
+use Rattle.decoder.specs.Frame.{candidatesOf, erasedChecked, erasedSamples, erasedState, receivedChecked, receivedSamples, receivedState}
 use Rattle.decoder.specs.declared.Answer.{Answer}
 
 -- ---- the first number that applies, or what the record is
@@ -31,14 +32,17 @@ examined s r samples =
 abbrev pub refusal : State → Refusal → Answer
 refusal s n = record { verdict = verdicts.Refused n; state = s }
 
-abbrev pub acceptance : State → Answer
-acceptance next = record { verdict = verdicts.Accepted; state = next }
+-- an acceptance says what was done to the candidate LSPs (document 02, E2)
+abbrev pub acceptance : Outcome → State → Answer
+acceptance outcome next = record { verdict = verdicts.Accepted outcome; state = next }
 
 -- the answer
 unfoldable pub answerTo : Found → State → List ℕ → Answer
 answerTo (Refused n) s r = refusal s n
-answerTo Erased s r = acceptance (erasedState s)
-answerTo (Received rate form) s r = acceptance (receivedState s rate (fieldsOf form r) (candidatesOf form r (s .«prev_lsp»)))
+answerTo Erased s r = acceptance (erasedChecked s .outcome) (erasedState s)
+answerTo (Received rate form) s r =
+    let candidates = candidatesOf form r (s .«prev_lsp») in
+    acceptance (receivedChecked s candidates .outcome) (receivedState s rate (fieldsOf form r) candidates)
 
 -- the samples: a refusal changes none
 unfoldable pub samplesTo : Found → State → List ℕ → List ℤ → List ℤ

@@ -7,6 +7,7 @@ use lib.ListN.{drop}
 use Rattle.integers.specs.Base.{up}
 use Rattle.tables.specs.Constants.{frameSize, classifierHistory, lspMinimum, lspMinimumErased, band0Place, band1Place, band2Place}
 use Rattle.stability.specs.Stability.{checkOrPrevious}
+use Rattle.stability.specs.declared.Stabilised.{Stabilised}
 use Rattle.lsp.specs.Lsps.{decoded, extrapolated}
 use Rattle.lpc.specs.Lpc.{frameCoefficients}
 use Rattle.excitation.specs.Excitation.{subframePlace, withSubframe, inTurn, limitedSum, tapSum, unvoicedGain}
@@ -78,8 +79,12 @@ module _ (s : State) (lsps : List ℤ) (inputs : List (List ℤ)) where
 -- ---- an erased frame (decode_erased)
 
 module _ (s : State) where
+  -- the extrapolated LSPs stabilised, or the previous ones
+  abbrev pub erasedChecked : Stabilised
+  erasedChecked = checkOrPrevious (pos lspMinimumErased) (extrapolated (s .«prev_lsp»)) (s .«prev_lsp»)
+
   abbrev pub erasedLsps : List ℤ
-  erasedLsps = checkOrPrevious (pos lspMinimumErased) (extrapolated (s .«prev_lsp»)) (s .«prev_lsp»)
+  erasedLsps = erasedChecked .lsps
 
   -- voicing centres on the lag of subframe 2
   abbrev pub erasedSignal : List ℤ
@@ -111,8 +116,11 @@ candidatesOf Values r previous = candidates r
 candidatesOf Index r previous = decoded (byte r band0Place) (byte r band1Place) (byte r band2Place) previous
 
 -- stabilised, or the previous LSPs
+abbrev pub receivedChecked : State → List ℤ → Stabilised
+receivedChecked s candidates = checkOrPrevious (pos lspMinimum) candidates (s .«prev_lsp»)
+
 abbrev pub receivedLsps : State → List ℤ → List ℤ
-receivedLsps s candidates = checkOrPrevious (pos lspMinimum) candidates (s .«prev_lsp»)
+receivedLsps s candidates = receivedChecked s candidates .lsps
 
 -- x with the excitation of a subframe, by its block: the adaptive part and the fixed vector
 abbrev pub receivedTo : Block → List ℤ → Subframe → List ℤ

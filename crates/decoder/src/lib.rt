@@ -4,19 +4,20 @@ ghost use mathlib.Core.Bool.{true, cond};
 ghost use lib.ListN.{length};
 ghost use Rattle.integers.specs.Base.{entry};
 ghost use Rattle.layout.specs.Layout.{ordinal};
-ghost use Rattle.numbers.specs.Numbers.{numberOf};
+ghost use Rattle.verdict.specs.Verdicts.{numberOf};
 ghost use Rattle.state.specs.State.{inBounds};
-ghost use Rattle.decoder.specs.Frame.{plainInputs, pitchInputs, candidatesOf, receivedTo, frameSamples, frameState, erasedSamples, erasedState, receivedSamples, receivedState};
+ghost use Rattle.decoder.specs.Frame.{plainInputs, pitchInputs, candidatesOf, receivedTo, frameSamples, frameState, erasedChecked, erasedSamples, erasedState, receivedChecked, receivedSamples, receivedState};
 ghost use Rattle.decoder.specs.Decoder.{refusal, acceptance, answerOf, firstNumber, samplesOf};
 use excitation::Rate;
 use excitation::Subframe;
 use layout::LspForm;
 use numbers::Refusal;
-use numbers::Verdict;
 use output::Filters;
 use record::Block;
 use refusals::Found;
+use stability::Stabilised;
 use state::State;
+use verdict::Verdict;
 
 // What is stored of a frame for erased ones (record_last_frame).
 pub struct LastFrame {
@@ -89,17 +90,18 @@ fn received_subframe(signal: [i16; 386], s: Subframe, b: Block) -> [i16; 386]
 fn finish_frame(
     samples: &mut [i16],
     given: State,
-    lsps: [i16; 10],
+    checked: Stabilised,
     signal: [i16; 386],
     inputs: [[i32; 60]; 4],
     last: LastFrame,
 ) -> Answer
     requires { ⌜ length (now samples) ≡ 240 ⌝ }
     requires { ⌜ inBounds given ≡ true ⌝ }
-    ensures answer { λ r. ⌜ r ≡ acceptance (frameState given lsps inputs signal last) ⌝ }
-    ensures samples { λ r. ⌜ now (samples .exit) ≡ frameSamples given lsps inputs ⌝ }
+    ensures answer { λ r. ⌜ r ≡ acceptance (checked .outcome) (frameState given (checked .lsps) inputs signal last) ⌝ }
+    ensures samples { λ r. ⌜ now (samples .exit) ≡ frameSamples given (checked .lsps) inputs ⌝ }
 {
     let prev = given.prev_lsp;
+    let lsps = checked.lsps;
     let sets = lpc::frame_lpc_q13(prev, lsps);
     let wide = given.syn_mem;
     let mem = widths::narrow_memory(wide);
@@ -127,8 +129,9 @@ fn finish_frame(
         erased_run: last.erased_run,
         postfilter: given.postfilter,
     };
+    let outcome = checked.outcome;
     Answer {
-        verdict: Verdict::Accepted,
+        verdict: Verdict::Accepted(outcome),
         state: next,
     }
 }
@@ -137,13 +140,13 @@ fn finish_frame(
 fn decode_erased(samples: &mut [i16], given: State) -> Answer
     requires { ⌜ length (now samples) ≡ 240 ⌝ }
     requires { ⌜ inBounds given ≡ true ⌝ }
-    ensures answer { λ r. ⌜ r ≡ acceptance (erasedState given) ⌝ }
+    ensures answer { λ r. ⌜ r ≡ acceptance (erasedChecked given .outcome) (erasedState given) ⌝ }
     ensures samples { λ r. ⌜ now (samples .exit) ≡ erasedSamples given ⌝ }
 {
     let run = noise::next_run(given.erased_run);
     let prev = given.prev_lsp;
     let candidates = lsp::lsp_extrapolate(prev);
-    let lsps = stability::lsp_check_or_previous(
+    let checked = stability::lsp_check_or_previous(
         candidates,
         prev,
         tables::LSP_DELTA_MIN_ERASURE_Q15,
@@ -163,7 +166,7 @@ fn decode_erased(samples: &mut [i16], given: State) -> Answer
         last_gain_unvoiced: given.last_gain_unvoiced,
         erased_run: run,
     };
-    finish_frame(samples, given, lsps, signal, inputs, last)
+    finish_frame(samples, given, checked, signal, inputs, last)
 }
 
 // Candidate LSPs: the record's own, or those of its index.
@@ -191,11 +194,11 @@ fn decode_received(
 ) -> Answer
     requires { ⌜ length (now samples) ≡ 240 ⌝ }
     requires { ⌜ inBounds given ≡ true ⌝ }
-    ensures answer { λ r. ⌜ r ≡ acceptance (receivedState given rate (now (fields .entry)) candidates) ⌝ }
+    ensures answer { λ r. ⌜ r ≡ acceptance (receivedChecked given candidates .outcome) (receivedState given rate (now (fields .entry)) candidates) ⌝ }
     ensures samples { λ r. ⌜ now (samples .exit) ≡ receivedSamples given rate (now (fields .entry)) candidates ⌝ }
 {
     let prev = given.prev_lsp;
-    let lsps = stability::lsp_check_or_previous(candidates, prev, tables::LSP_DELTA_MIN_Q15);
+    let checked = stability::lsp_check_or_previous(candidates, prev, tables::LSP_DELTA_MIN_Q15);
     let b0 = record::read_block(fields, rate, Subframe::Zero);
     let b1 = record::read_block(fields, rate, Subframe::One);
     let b2 = record::read_block(fields, rate, Subframe::Two);
@@ -216,7 +219,7 @@ fn decode_received(
         last_gain_unvoiced: excitation::unvoiced_gain(b2.gain_index, b3.gain_index),
         erased_run: 0,
     };
-    finish_frame(samples, given, lsps, signal, inputs, last)
+    finish_frame(samples, given, checked, signal, inputs, last)
 }
 
 fn refused(given: State, n: Refusal) -> Answer

@@ -141,7 +141,7 @@ fn decoded(given: State, bytes: &[u8]) -> Reply
     let a = decoder::decode(given, bytes, &mut samples);
     let v = a.verdict;
     let state = a.state;
-    let n = numbers::verdict_number(v);
+    let n = verdict::verdict_number(v);
     let text = answer_text(n, samples);
     Reply {
         state: state,

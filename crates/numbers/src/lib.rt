@@ -1,6 +1,6 @@
-// The ten numbers by their meaning, and what the decoder says of a record.
+// The ten numbers by their meaning.
 ghost use mathlib.Core.Path.{_≡_};
-ghost use Rattle.numbers.specs.Numbers.{number, numberOf};
+ghost use Rattle.numbers.specs.Numbers.{number};
 
 // The ten refusals, in the order of their numbers. The first two are not of a record.
 pub enum Refusal {
@@ -16,13 +16,8 @@ pub enum Refusal {
     Signs,
 }
 
-// What the decoder says of a record.
-pub enum Verdict {
-    Accepted,
-    Refused(Refusal),
-}
-
-fn refusal_number(n: Refusal) -> u8
+// Document 01's number.
+pub fn refusal_number(n: Refusal) -> u8
     ensures { λ r. ⌜ r ≡ number n ⌝ }
 {
     match n {
@@ -36,15 +31,5 @@ fn refusal_number(n: Refusal) -> u8
         Refusal::GainIndex => 8,
         Refusal::Flags => 9,
         Refusal::Signs => 10,
-    }
-}
-
-// Document 01's number; 0 where the record is accepted.
-pub fn verdict_number(v: Verdict) -> u8
-    ensures { λ r. ⌜ r ≡ numberOf v ⌝ }
-{
-    match v {
-        Verdict::Accepted => 0,
-        Verdict::Refused(n) => refusal_number(n),
     }
 }

@@ -1,3 +1,4 @@
 pub mod Values
 pub mod Passes
 pub mod Gaps
+pub mod Turns

@@ -1,5 +1,5 @@
--- Stabilised LSPs (document 01, "LSPs"; the Rust's qdec.rs): candidates whose short gaps are widened. An LSP f is the frequency π f / 32768; clauses are those of G.723.1 that the Rust names.
-use mathlib.Core.Bool.{Bool, true, false, cond, not, _||_}
+-- Stabilised LSPs (document 01, "LSPs"; document 02, E2; the Rust's qdec.rs): candidates whose short gaps are widened, and what was done to them. An LSP f is the frequency π f / 32768; clauses are those of G.723.1 that the Rust names.
+use mathlib.Core.Bool.{Bool, false, cond, _||_}
 use mathlib.Core.List.{List}
 use Prim.Native.Nat.{ℕ, zero, suc, _+_}
 use lib.IntN.{ℤ, pos, _+ℤ_, _-ℤ_}
@@ -8,6 +8,8 @@ use lib.Signed.{ltZ, quotZ}
 use Rattle.integers.specs.Base.{floorDiv, entry}
 use Rattle.tables.specs.Constants.{stabilityPasses}
 use Rattle.basicop.specs.Operators.{add16, sub16}
+use Rattle.stability.specs.declared.Outcome.{Outcome}
+use Rattle.stability.specs.declared.Outcome.the-variants.{Untouched, Moved, Previous}
 use Rattle.stability.specs.declared.Stabilised.{Stabilised}
 
 -- ---- stabilising (lsp_stability; §2.6, step 3)
@@ -48,15 +50,34 @@ passMoves m p = anyTo (λ j. short m (passTo m p j) j) 9
 abbrev pub anyShort : ℤ → List ℤ → Bool
 anyShort m p = anyTo (short m p) 9
 
--- up to n passes: one without moves ends it; after the last one all gaps are tested
-unfoldable pub passes : ℤ → ℕ → List ℤ → Stabilised
-passes m zero p = record { lsps = p; passed = not (anyShort m p) }
-passes m (suc n) p = cond (passMoves m p) (passes m n (pass m p)) (record { lsps = pass m p; passed = true })
+-- p after up to n passes: one without moves ends it
+unfoldable pub passes : ℤ → ℕ → List ℤ → List ℤ
+passes m zero p = p
+passes m (suc n) p = cond (passMoves m p) (passes m n (pass m p)) p
 
--- up to ten
+-- what is said of candidates p (document 02, E2): untouched where the first pass moves none, and else moved, or, where a gap is short after the passes, given up for the previous LSPs
+abbrev pub outcomeOf : ℤ → List ℤ → Outcome
+outcomeOf m p = cond (passMoves m p) (cond (anyShort m (passes m stabilityPasses p)) Previous Moved) Untouched
+
+-- up to ten passes, and what is then said
 abbrev pub stabilised : ℤ → List ℤ → Stabilised
-stabilised m p = passes m stabilityPasses p
+stabilised m p = record { lsps = passes m stabilityPasses p; outcome = outcomeOf m p }
 
--- the candidates so stabilised where they passed, and else the previous LSPs (lsp_check_or_previous)
-abbrev pub checkOrPrevious : ℤ → List ℤ → List ℤ → List ℤ
-checkOrPrevious m candidates previous = cond (stabilised m candidates .passed) (stabilised m candidates .lsps) previous
+-- ---- the candidates, or else the previous LSPs (lsp_check_or_previous)
+
+-- the LSPs that are used: those that passed, or the previous ones
+abbrev pub lspsUsed : Outcome → List ℤ → List ℤ → List ℤ
+lspsUsed Untouched lsps previous = lsps
+lspsUsed Moved lsps previous = lsps
+lspsUsed Previous lsps previous = previous
+
+abbrev pub checkOrPrevious : ℤ → List ℤ → List ℤ → Stabilised
+checkOrPrevious m candidates previous =
+    let s = stabilised m candidates in record { lsps = lspsUsed (s .outcome) (s .lsps) previous; outcome = s .outcome }
+
+-- ---- the three outcomes as numbers, for who writes them down (docs/FORMAT.md)
+
+abbrev pub outcomeCode : Outcome → ℕ
+outcomeCode Untouched = 0
+outcomeCode Moved = 1
+outcomeCode Previous = 2

@@ -1,16 +1,26 @@
 // LSPs: candidates stabilised, or else the previous ones kept, under the Rust's names (qdec.rs).
 ghost use mathlib.Core.Path.{_≡_};
 ghost use mathlib.Core.Bool.{cond, _||_};
+ghost use lib.Dec.{eqb};
 ghost use Prim.Native.Nat.{_<_};
 ghost use lib.IntN.{_+ℤ_, _-ℤ_};
 ghost use lib.Signed.{ltZ};
 ghost use Rattle.integers.specs.Base.{floorDiv};
-ghost use Rattle.stability.specs.Stability.{short, spread, pass, passMoves, anyShort, stabilised, checkOrPrevious};
+ghost use Rattle.stability.specs.Stability.{short, spread, pass, passMoves, anyShort, stabilised, checkOrPrevious, outcomeCode};
+ghost use Rattle.stability.specs.declared.Outcome.the-variants.{Untouched, Moved};
 
-// The LSPs after stabilising, and whether every gap is then at least the minimum.
+// What stabilising says of the candidates: no pair was moved; some were, and the gaps are then met; or the previous LSPs are
+// used.
+pub enum Outcome {
+    Untouched,
+    Moved,
+    Previous,
+}
+
+// LSPs, and what was done to get them.
 pub struct Stabilised {
     pub lsps: [i16; 10],
-    pub passed: bool,
+    pub outcome: Outcome,
 }
 
 // A pass under way: the LSPs, and whether it moved some.
@@ -90,6 +100,18 @@ fn any_short(p: [i16; 10], minimum: i16) -> bool
     found
 }
 
+// What a pass without moves says of the candidates, after n passes with moves.
+fn outcome_after(n: usize) -> Outcome
+    ensures { λ r. ⌜ r ≡ cond (eqb n 0) Untouched Moved ⌝ }
+{
+    if n == 0 {
+        Outcome::Untouched
+    } else {
+        Outcome::Moved
+    }
+}
+
+// With a short gap left after the last pass, the LSPs are what the passes made of them.
 pub fn lsp_stability(p: [i16; 10], minimum: i16) -> Stabilised
     ensures { λ r. ⌜ r ≡ stabilised minimum p ⌝ }
 {
@@ -101,21 +123,44 @@ pub fn lsp_stability(p: [i16; 10], minimum: i16) -> Stabilised
         if !s.moved {
             return Stabilised {
                 lsps: q,
-                passed: true,
+                outcome: outcome_after(n),
             };
         }
         n += 1;
     }
-    let short = any_short(q, minimum);
+    if any_short(q, minimum) {
+        return Stabilised {
+            lsps: q,
+            outcome: Outcome::Previous,
+        };
+    }
     Stabilised {
         lsps: q,
-        passed: !short,
+        outcome: Outcome::Moved,
     }
 }
 
-pub fn lsp_check_or_previous(cand: [i16; 10], prev: [i16; 10], minimum: i16) -> [i16; 10]
+pub fn lsp_check_or_previous(cand: [i16; 10], prev: [i16; 10], minimum: i16) -> Stabilised
     ensures { λ r. ⌜ r ≡ checkOrPrevious minimum cand prev ⌝ }
 {
     let s = lsp_stability(cand, minimum);
-    if s.passed { s.lsps } else { prev }
+    let outcome = s.outcome;
+    match outcome {
+        Outcome::Untouched => s,
+        Outcome::Moved => s,
+        Outcome::Previous => Stabilised {
+            lsps: prev,
+            outcome: Outcome::Previous,
+        },
+    }
+}
+
+pub fn outcome_code(outcome: Outcome) -> u8
+    ensures { λ r. ⌜ r ≡ outcomeCode outcome ⌝ }
+{
+    match outcome {
+        Outcome::Untouched => 0,
+        Outcome::Moved => 1,
+        Outcome::Previous => 2,
+    }
 }

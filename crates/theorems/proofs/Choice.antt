@@ -38,7 +38,7 @@ module _ (s t : State) (k : SameKept s t) (r : List ℕ) where
       SameKept (receivedState s rate f (candidatesOf form r (s .«prev_lsp»))) (receivedState t rate f (candidatesOf form r (t .«prev_lsp»)))
   unfolding frameState receivedState
   kept-received rate form = record {
-    lsps = ap (λ (p : List ℤ). checkOrPrevious (pos lspMinimum) (candidatesOf form r p) p) (k .lsps);
+    lsps = ap (λ (p : List ℤ). checkOrPrevious (pos lspMinimum) (candidatesOf form r p) p .lsps) (k .lsps);
     history =
         let block : Subframe → Block = blockOf rate (fieldsOf form r) in
         ap (λ (x : List ℤ). historyAfter (inTurn (λ y n. receivedTo (block n) y n) (frameSignal x))) (k .history);

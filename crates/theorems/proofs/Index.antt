@@ -38,7 +38,7 @@ use Rattle.refusals.specs.declared.Found.{Found}
 use Rattle.refusals.specs.declared.Found.the-variants.{Received, Refused}
 use Rattle.state.specs.State.{freshState, inBounds}
 use Rattle.state.specs.declared.State.{State}
-use Rattle.decoder.specs.Frame.{candidatesOf, frameState, receivedSamples, receivedState}
+use Rattle.decoder.specs.Frame.{candidatesOf, frameState, receivedChecked, receivedSamples, receivedState}
 use Rattle.decoder.specs.Decoder.{examined, acceptance, answerTo, samplesTo}
 use Rattle.theorems.specs.Index.{PlainFromMean, HasIndexZero, IndexZero, valueBytes, writtenOut, IndexWritten}
 
@@ -82,7 +82,7 @@ unfolding tabulate meanLsps band0 band1 band2
 zero-rows = plain-from-mean 0 0 0 (omega arith) (omega arith) (omega arith)
 
 -- the mean has its gaps
-mean-stable : checkOrPrevious (pos lspMinimum) meanLsps meanLsps ≡ meanLsps
+mean-stable : checkOrPrevious (pos lspMinimum) meanLsps meanLsps .lsps ≡ meanLsps
 unfolding passes passTo anyTo meanLsps
 mean-stable = refl
 
@@ -95,7 +95,7 @@ index-zero = record {
   candidates = λ on r z. zero-candidates r z;
   stored = λ on rate i z e.
       ap (λ (f : Found). answerTo f (freshState on) (i .bytes) .state .«prev_lsp») e
-      ∙ ap (λ (l : List ℤ). checkOrPrevious (pos lspMinimum) l meanLsps) (zero-candidates (i .bytes) z) ∙ mean-stable;
+      ∙ ap (λ (l : List ℤ). checkOrPrevious (pos lspMinimum) l meanLsps .lsps) (zero-candidates (i .bytes) z) ∙ mean-stable;
 }
 
 -- ---- values written and read again
@@ -204,7 +204,7 @@ module _ (s : State) (rate : Rate) (r : List ℕ) (x : List ℤ) where
   alike-received : Alike (Received rate Index) (Received rate Values)
   unfolding answerTo samplesTo
   alike-received = record {
-    answer = λ i. acceptance (receivedState s rate (sym fields-same i) (sym values-same i));
+    answer = λ i. let c = sym values-same i in acceptance (receivedChecked s c .outcome) (receivedState s rate (sym fields-same i) c);
     number = refl;
     samples = λ i. receivedSamples s rate (sym fields-same i) (sym values-same i);
   }

@@ -5,8 +5,8 @@ use Prim.Native.Nat.{ℕ}
 use lib.IntN.{ℤ}
 use Rattle.state.specs.declared.State.{State}
 use Rattle.decoder.specs.Decoder.{answerOf, samplesOf}
-use Rattle.numbers.specs.declared.Verdict.{Verdict}
-use Rattle.numbers.specs.declared.Verdict.the-variants.{Accepted, Refused}
+use Rattle.verdict.specs.declared.Verdict.{Verdict}
+use Rattle.verdict.specs.declared.Verdict.the-variants.{Accepted, Refused}
 
 -- a record's bytes, and the samples that the decoder is lent for it
 pub record Item : Type 0 where
@@ -18,7 +18,7 @@ abbrev pub next : State → Item → State
 next s i = answerOf s (i .bytes) (i .samples) .state
 
 abbrev pub isAccepted : Verdict → Bool
-isAccepted Accepted = true
+isAccepted (Accepted o) = true
 isAccepted (Refused n) = false
 
 -- whether it is accepted

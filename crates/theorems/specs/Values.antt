@@ -5,6 +5,7 @@ use mathlib.Core.List.{[], _∷_}
 use lib.IntN.{pos, negsuc}
 use Rattle.isqrt.specs.Root.{root}
 use Rattle.stability.specs.Stability.{stabilised}
+use Rattle.stability.specs.declared.Outcome.the-variants.{Moved}
 use Rattle.lpc.specs.Lpc.{cosine}
 use Rattle.positions.specs.Positions.{bits, positions}
 use Rattle.positions.specs.declared.Count.the-variants.{Five, Six}
@@ -23,7 +24,7 @@ pub record StarredValues : Type 0 where
       stabilised (pos 256) (pos 1000 ∷ pos 1100 ∷ pos 2000 ∷ pos 3000 ∷ pos 4000 ∷ pos 5000 ∷ pos 6000 ∷ pos 7000 ∷ pos 8000 ∷ pos 9000 ∷ [])
       ≡ record {
         lsps = pos 922 ∷ pos 1178 ∷ pos 2000 ∷ pos 3000 ∷ pos 4000 ∷ pos 5000 ∷ pos 6000 ∷ pos 7000 ∷ pos 8000 ∷ pos 9000 ∷ [];
-        passed = true;
+        outcome = Moved;
       }
   -- root of 15: 3; of 16: 4
   pub root-of-15 : root 15 ≡ 3

@@ -6,7 +6,7 @@ use Rattle.numbers.specs.declared.Refusal.the-variants.{SampleLength, StateBoun
 use Rattle.refusals.specs.declared.Found.{Found}
 use Rattle.state.specs.State.{inBounds}
 use Rattle.integers.specs.Truth.{not-true, not-false}
-use Rattle.decoder.specs.Frame.{receivedSamples, receivedState}
+use Rattle.decoder.specs.Frame.{receivedChecked, receivedSamples, receivedState}
 use Rattle.decoder.specs.Decoder.{examined, acceptance}
 use Rattle.decoder.proofs.Answers.{length-refused, bounds-refused, record-found}
 use Rattle.decoder.proofs.Answers.{refused-promised, erased-promised, received-promised}
@@ -121,7 +121,7 @@ returns-5 c =
     let form = t .rate .given .0 .1 .0 in
     let r = c .before .decode-received .ensures in
     received-promised (a .given) (a .«record» .now) (a .samples .now) rate form (found-is e (t .rate .given .1))
-    (r .0 ∙ (λ i. acceptance (receivedState (a .given) rate (f .fields .ensures i) (l .candidates-of .ensures i))))
+    (r .0 ∙ (λ i. let y = l .candidates-of .ensures i in acceptance (receivedChecked (a .given) y .outcome) (receivedState (a .given) rate (f .fields .ensures i) y)))
     (r .1 ∙ (λ i. receivedSamples (a .given) rate (f .fields .ensures i) (l .candidates-of .ensures i)))
 
 pub decode-spec : {M : Type 1} → statement M

@@ -17,7 +17,7 @@ use Rattle.widths.specs.Widths.{frameSignal}
 use Rattle.state.specs.declared.State.{State}
 use Rattle.state.proofs.Bounds.{signal-narrowed}
 use Rattle.decoder.specs.Frame.{plainInputs, frameSamples, frameState}
-use Rattle.decoder.specs.Frame.{erasedLsps, erasedSignal, erasedSamples, erasedState}
+use Rattle.decoder.specs.Frame.{erasedChecked, erasedSignal, erasedSamples, erasedState}
 use Rattle.decoder.specs.Decoder.{acceptance}
 use Rattle.decoder.proofs.Fields.{field-length, lag2-fits, taps-fits, gain-fits, lag2-natural}
 use Rattle.decoder.proofs.decode_erased.Statement.{statement}
@@ -28,8 +28,8 @@ use Rattle.decoder.proofs.decode_erased.Tie as tie
 abbrev start-of : tie.After-lsp-check-or-previous → tie.Start
 start-of c = c .before .before .before .before
 
-abbrev lsps-of : tie.After-classify-erasure-voicing → tie.After-lsp-check-or-previous
-lsps-of c = c .before .before .before .before .before
+abbrev checked-of : tie.After-classify-erasure-voicing → tie.After-lsp-check-or-previous
+checked-of c = c .before .before .before .before .before
 
 abbrev class-of : tie.After-frame-signal → tie.After-classify-erasure-voicing
 class-of c = c .before .before .before .before .before .before
@@ -38,7 +38,7 @@ abbrev silent-of : tie.After-plain-inputs → tie.After-frame-signal
 silent-of c = c .before .before .before
 
 abbrev begin-of : tie.After-plain-inputs → tie.Start
-begin-of c = start-of (lsps-of (class-of (silent-of c)))
+begin-of c = start-of (checked-of (class-of (silent-of c)))
 
 -- ---- what each call answers, of the state
 
@@ -49,23 +49,23 @@ module _ (s : tie.Start) where
   lag2-is : toZ w32 (ofZ w32 (given .«last_lag2»)) ≡ given .«last_lag2»
   lag2-is = toZ-ofZ (widen (lag2-fits given (s .pre .1)) tt)
 
-lsps-is : (c : tie.After-lsp-check-or-previous) → c .lsp-check-or-previous .result ≡ erasedLsps (given (start-of c))
-lsps-is c =
+checked-is : (c : tie.After-lsp-check-or-previous) → c .lsp-check-or-previous .result ≡ erasedChecked (given (start-of c))
+checked-is c =
     let prev = given (start-of c) .«prev_lsp» in
     let extrapolated = c .before .lsp-extrapolate .ensures in
     c .lsp-check-or-previous .ensures ∙ ap (λ (l : List ℤ). checkOrPrevious (pos 512) l prev) extrapolated
 
-class-is : (c : tie.After-classify-erasure-voicing) → let g = given (start-of (lsps-of c)) in
+class-is : (c : tie.After-classify-erasure-voicing) → let g = given (start-of (checked-of c)) in
     c .classify-erasure-voicing .result ≡ voicingOf (g .«pcm_hist») (up (g .«last_lag2»))
 class-is c =
-    let s = start-of (lsps-of c) in
+    let s = start-of (checked-of c) in
     let lag = ap natAbs (lag2-is s) ∙ lag2-natural (given s) (s .pre .1) .2 in
     c .classify-erasure-voicing .ensures ∙ ap (voicingOf (given s .«pcm_hist»)) lag
 
-silent-is : (c : tie.After-frame-signal) → let g = given (start-of (lsps-of (class-of c))) in
+silent-is : (c : tie.After-frame-signal) → let g = given (start-of (checked-of (class-of c))) in
     c .frame-signal .result ≡ frameSignal (g .«exc_hist»)
 silent-is c =
-    let s = start-of (lsps-of (class-of c)) in
+    let s = start-of (checked-of (class-of c)) in
     let size = field-length (given s .«exc_hist») (s .good .1 .0 .1 .1 .1 .0 .1 .0 .1) in
     c .frame-signal .ensures ∙ signal-narrowed (given s) size (s .pre .1)
 
@@ -74,7 +74,7 @@ module _ (c : tie.After-plain-inputs) where
   signal-is =
       let s = begin-of c in
       let f = silent-of c in
-      let run = lsps-of (class-of f) .before .before .before .next-run .ensures in
+      let run = checked-of (class-of f) .before .before .before .next-run .ensures in
       let t = taps-fits (given s) (s .pre .1) in
       let g = gain-fits (given s) (s .pre .1) in
       let taps = is-cast (is-arg (widen {w′ = w32} t tt)) t .is in
@@ -106,12 +106,12 @@ classify-erasure-voicing-requires c κs = tt
 
 cast-tap-sum : tie.Need-cast-tap-sum
 cast-tap-sum c =
-    let s = start-of (lsps-of (c .before .before)) in
+    let s = start-of (checked-of (c .before .before)) in
     let f = taps-fits (given s) (s .pre .1) in need-cast (is-arg (widen {w′ = w32} f tt)) f
 
 cast-gain : tie.Need-cast-gain
 cast-gain c =
-    let s = start-of (lsps-of (c .before .before .before .before)) in
+    let s = start-of (checked-of (c .before .before .before .before)) in
     let f = gain-fits (given s) (s .pre .1) in need-cast (is-arg (widen {w′ = w32} f tt)) f
 
 frame-signal-requires : tie.Need-frame-signal-requires
@@ -136,16 +136,16 @@ returns c =
     let t = c .before .before .before in
     let p = t .before in
     let g = given (begin-of p) in
-    let l = lsps-of (class-of (silent-of p)) in
+    let l = checked-of (class-of (silent-of p)) in
     let told = t .struct-told4 .given .1 .1 .1 .1 in (
-      r .ensures .0 ∙ (λ i. acceptance (frameState g (lsps-is l i) (inputs-is p i) (signal-is p i) record {
+      r .ensures .0 ∙ (λ i. acceptance (checked-is l i .outcome) (frameState g (checked-is l i .lsps) (inputs-is p i) (signal-is p i) record {
         «last_lag» = read-back w32 (g .«last_lag») (told .0 .1) i;
         «last_lag2» = read-back w32 (g .«last_lag2») (told .1 .0 .1) i;
         «last_taps_sum_q15» = read-back w32 (g .«last_taps_sum_q15») (told .1 .1 .0 .1) i;
         «last_gain_unvoiced» = read-back w32 (g .«last_gain_unvoiced») (told .1 .1 .1 .0 .1) i;
         «erased_run» = l .before .before .before .next-run .ensures i;
       })),
-      r .ensures .1 ∙ (λ i. frameSamples g (lsps-is l i) (inputs-is p i)),
+      r .ensures .1 ∙ (λ i. frameSamples g (checked-is l i .lsps) (inputs-is p i)),
     )
 
 pub decode-erased-spec : {M : Type 1} → statement M

@@ -16,7 +16,7 @@ use Rattle.widths.specs.Widths.{frameSignal}
 use Rattle.state.specs.declared.State.{State}
 use Rattle.state.proofs.Bounds.{signal-narrowed}
 use Rattle.decoder.specs.Frame.{frameSamples, frameState, receivedTo}
-use Rattle.decoder.specs.Frame.{receivedLsps, receivedSignal, receivedInputs}
+use Rattle.decoder.specs.Frame.{receivedChecked, receivedSignal, receivedInputs}
 use Rattle.decoder.specs.Frame.{receivedSamples, receivedState}
 use Rattle.decoder.specs.Decoder.{acceptance}
 use Rattle.decoder.proofs.Fields.{field-length}
@@ -29,8 +29,8 @@ use Rattle.decoder.proofs.decode_received.Tie as tie
 abbrev start-of : tie.After-lsp-check-or-previous → tie.Start
 start-of c = c .before .before .before
 
-abbrev lsps-of : tie.After-read-block4 → tie.After-lsp-check-or-previous
-lsps-of c = c .before .before .before .before
+abbrev checked-of : tie.After-read-block4 → tie.After-lsp-check-or-previous
+checked-of c = c .before .before .before .before
 
 abbrev blocks-of : tie.After-frame-signal → tie.After-read-block4
 blocks-of c = c .before .before
@@ -42,7 +42,7 @@ abbrev signal-of : tie.After-received-inputs → tie.After-received-subframe4
 signal-of c = c .before .before .before .before .before .before
 
 abbrev begin-of : tie.After-read-block4 → tie.Start
-begin-of c = start-of (lsps-of c)
+begin-of c = start-of (checked-of c)
 
 -- ---- what each call answers, of the state, the fields and the candidates
 
@@ -56,9 +56,9 @@ module _ (s : tie.Start) where
   abbrev blockAt : Subframe → Block
   blockAt k = blockOf (s .args .rate) fields k
 
-lsps-is : (c : tie.After-lsp-check-or-previous) → let s = start-of c in
-    c .lsp-check-or-previous .result ≡ receivedLsps (given s) (s .args .candidates)
-lsps-is c = c .lsp-check-or-previous .ensures
+checked-is : (c : tie.After-lsp-check-or-previous) → let s = start-of c in
+    c .lsp-check-or-previous .result ≡ receivedChecked (given s) (s .args .candidates)
+checked-is c = c .lsp-check-or-previous .ensures
 
 module _ (c : tie.After-read-block4) where
   abbrev blockRead : Subframe → Block
@@ -185,19 +185,19 @@ returns c =
     let x = signal-is (signal-of n) in
     let s = begin-of (blocks n) in
     let g = given s in
-    let l = lsps-of (blocks n) in
+    let l = checked-of (blocks n) in
     let b = block-is (blocks n) in
     let sum = u .before .tap-sum in
     let gain = u .unvoiced-gain in
     let unvoiced : Block → Block → ℤ = λ p q. pos (unvoicedGain (p .«gain_index») (q .«gain_index»)) in (
-      r .ensures .0 ∙ (λ i. acceptance (frameState g (lsps-is l i) (inputs-is n i) (x i) record {
+      r .ensures .0 ∙ (λ i. acceptance (checked-is l i .outcome) (frameState g (checked-is l i .lsps) (inputs-is n i) (x i) record {
         «last_lag» = back w32 (t .before .struct-told5 .given .1 .0 .1) (λ j. b Three j .lag) i;
         «last_lag2» = back w32 (t .struct-told6 .given .1 .0 .1) (λ j. b Two j .lag) i;
         «last_taps_sum_q15» = back w32 (sum .ok) (sum .ensures ∙ (λ j. tapSum (b Three j .taps))) i;
         «last_gain_unvoiced» = back w32 (gain .ok) (gain .ensures ∙ (λ j. unvoiced (b Two j) (b Three j))) i;
         «erased_run» = 0;
       })),
-      r .ensures .1 ∙ (λ i. frameSamples g (lsps-is l i) (inputs-is n i)),
+      r .ensures .1 ∙ (λ i. frameSamples g (checked-is l i .lsps) (inputs-is n i)),
     )
 
 pub decode-received-spec : {M : Type 1} → statement M

@@ -33,7 +33,7 @@ module _ (c : tie.After-output-frame) where
   memory = c .before .before .before
 
   abbrev start : tie.Start
-  start = memory .before .before .before .before
+  start = memory .before .before .before .before .before
 
   abbrev written : List ℤ
   written = c .output-frame .last .0
@@ -48,7 +48,7 @@ module _ (c : tie.After-output-frame) where
       memory .narrow-memory .ensures ∙ memory-narrowed given size (start .pre .1)
 
   sets-is : let a = start .args in
-      memory .before .before .frame-lpc-q13 .result ≡ frameCoefficients (a .given .«prev_lsp») (a .lsps)
+      memory .before .before .frame-lpc-q13 .result ≡ frameCoefficients (a .given .«prev_lsp») (a .checked .lsps)
   sets-is = memory .before .before .frame-lpc-q13 .ensures
 
   abbrev sets : List (List ℤ)
@@ -57,7 +57,7 @@ module _ (c : tie.After-output-frame) where
   abbrev before : Filters
   before = record { «syn_mem» = memory .narrow-memory .result; pf = start .args .given .pf }
 
-  output-is : let a = start .args in written ≡ frameSamples (a .given) (a .lsps) (a .inputs)
+  output-is : let a = start .args in written ≡ frameSamples (a .given) (a .checked .lsps) (a .inputs)
   output-is =
       let a = start .args in
       let g = a .given in
@@ -65,7 +65,7 @@ module _ (c : tie.After-output-frame) where
       ∙ output-in (g .postfilter) sets (a .inputs) before (a .samples .now) (start .pre .0)
       ∙ (λ i. frameOutput (g .postfilter) (sets-is i) (a .inputs) record { «syn_mem» = memory-is i; pf = g .pf })
 
-  filters-is : let a = start .args in c .output-frame .result ≡ filtersLast (a .given) (a .lsps) (a .inputs)
+  filters-is : let a = start .args in c .output-frame .result ≡ filtersLast (a .given) (a .checked .lsps) (a .inputs)
   filters-is =
       let a = start .args in
       let g = a .given in
@@ -107,8 +107,8 @@ returns c =
     let told = c .struct-told .given in
     let size = output-length o in
     let tail = take-all 120 (drop 120 (written o)) (omega (arith, length-drop 120 (written o), size)) in (
-      (λ i. acceptance record {
-        «prev_lsp» = a .lsps;
+      (λ i. acceptance (a .checked .outcome) record {
+        «prev_lsp» = a .checked .lsps;
         «exc_hist» = h .history-after .ensures i;
         «syn_mem» = (w .widen-memory .ensures ∙ (λ j. f j .«syn_mem»)) i;
         pf = f i .pf;

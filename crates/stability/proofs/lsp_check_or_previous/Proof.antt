@@ -1,27 +1,56 @@
-use mathlib.Core.Path.{_≡_, sym, ap, _∙_}
-use mathlib.Core.Bool.{Bool, true, false, cond}
+use mathlib.Core.Path.{_≡_, refl, sym, ap, _∙_}
+use borrow.Author.Needs.{needs}
 use lib.IntN.{ℤ}
 use mir.Facts.{toZ-ofZ}
-use Rattle.stability.specs.Stability.{stabilised, checkOrPrevious}
+use Rattle.stability.specs.declared.Outcome.{Outcome}
+use Rattle.stability.specs.declared.Outcome.the-variants.{Untouched, Moved, Previous}
+use Rattle.stability.specs.declared.Stabilised.{Stabilised}
+use Rattle.stability.specs.Stability.{stabilised, lspsUsed, checkOrPrevious}
 use Rattle.stability.proofs.lsp_check_or_previous.Statement.{statement}
 use Rattle.stability.proofs.lsp_check_or_previous.Tie as tie
 
 lsp-stability-requires : tie.Need-lsp-stability-requires
 lsp-stability-requires c κs = tt
 
-answer : (c : tie.After-lsp-stability) → c .lsp-stability .result ≡ stabilised (c .before .args .minimum) (c .before .args .cand)
-answer c = c .lsp-stability .ensures ∙ ap (λ (z : ℤ). stabilised z (c .before .args .cand)) (toZ-ofZ (c .before .fits .minimum))
+enum-told : tie.Need-enum-told
+enum-told c = search needs
 
--- what the code's choice gives, by what it was told
-chosen : (c : tie.After-lsp-stability) (b : Bool) → c .lsp-stability .result .passed ≡ b →
-    let a = c .before .args in cond b (c .lsp-stability .result .lsps) (a .prev) ≡ checkOrPrevious (a .minimum) (a .cand) (a .prev)
-chosen c b e = (λ i. cond (sym e i) (c .lsp-stability .result .lsps) (c .before .args .prev)) ∙ (λ i. cond (answer c i .passed) (answer c i .lsps) (c .before .args .prev))
+enum-told-2 : tie.Need-enum-told-2
+enum-told-2 c = search needs
+
+enum-told-3 : tie.Need-enum-told-3
+enum-told-3 c = search needs
+
+module _ (c : tie.After-lsp-stability) where
+  abbrev told : Stabilised
+  told = c .lsp-stability .result
+
+  answer : told ≡ stabilised (c .before .args .minimum) (c .before .args .cand)
+  answer = c .lsp-stability .ensures ∙ ap (λ (z : ℤ). stabilised z (c .before .args .cand)) (toZ-ofZ (c .before .fits .minimum))
+
+  -- what goes with an outcome is the answer, where that is the one told
+  chosen : (o : Outcome) → told .outcome ≡ o → let a = c .before .args in
+      record { lsps = lspsUsed o (told .lsps) (a .prev); outcome = o } ≡ checkOrPrevious (a .minimum) (a .cand) (a .prev)
+  chosen o e =
+      let v = c .before .args .prev in
+      (λ i. record { lsps = lspsUsed (sym e i) (told .lsps) v; outcome = sym e i })
+      ∙ (λ i. record { lsps = lspsUsed (answer i .outcome) (answer i .lsps) v; outcome = answer i .outcome })
+
+  -- so is what was told, where it goes with that
+  kept : (o : Outcome) → told .outcome ≡ o → told .lsps ≡ lspsUsed o (told .lsps) (c .before .args .prev) →
+      let a = c .before .args in told ≡ checkOrPrevious (a .minimum) (a .cand) (a .prev)
+  kept o e h = (λ i. record { lsps = h i; outcome = e i }) ∙ chosen o e
 
 returns : tie.Need-returns
-returns c = chosen (c .before .before) true (c .before .if1 .taken)
+returns c = kept (c .before .before) Untouched (c .enum-told .given .1) refl
 
 returns-2 : tie.Need-returns-2
-returns-2 c = chosen (c .before) false (c .if1 .left)
+returns-2 c = kept (c .before .before) Moved (c .enum-told2 .given .1) refl
+
+returns-3 : tie.Need-returns-3
+returns-3 c = chosen (c .before .before) Previous (c .enum-told3 .given .1)
 
 pub lsp-check-or-previous-spec : {M : Type 1} → statement M
-lsp-check-or-previous-spec = tie.close (tie.spec lsp-stability-requires returns returns-2)
+lsp-check-or-previous-spec =
+    tie.close
+    (tie.spec lsp-stability-requires enum-told enum-told-2 enum-told-3 returns returns-2 returns-3)
