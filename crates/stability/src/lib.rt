@@ -150,7 +150,7 @@ pub fn lsp_check_or_previous(cand: [i16; 10], prev: [i16; 10], minimum: i16) -> 
         Outcome::Moved => s,
         Outcome::Previous => Stabilised {
             lsps: prev,
-            outcome: Outcome::Previous,
+            outcome: outcome,
         },
     }
 }

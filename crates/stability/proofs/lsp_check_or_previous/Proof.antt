@@ -1,4 +1,4 @@
-use mathlib.Core.Path.{_≡_, refl, sym, ap, _∙_}
+use mathlib.Core.Path.{_≡_, sym, ap, _∙_}
 use borrow.Author.Needs.{needs}
 use lib.IntN.{ℤ}
 use mir.Facts.{toZ-ofZ}
@@ -28,24 +28,19 @@ module _ (c : tie.After-lsp-stability) where
   answer : told ≡ stabilised (c .before .args .minimum) (c .before .args .cand)
   answer = c .lsp-stability .ensures ∙ ap (λ (z : ℤ). stabilised z (c .before .args .cand)) (toZ-ofZ (c .before .fits .minimum))
 
-  -- what goes with an outcome is the answer, where that is the one told
+  -- the LSPs that go with an outcome, where that is the one told
   chosen : (o : Outcome) → told .outcome ≡ o → let a = c .before .args in
-      record { lsps = lspsUsed o (told .lsps) (a .prev); outcome = o } ≡ checkOrPrevious (a .minimum) (a .cand) (a .prev)
+      record { lsps = lspsUsed o (told .lsps) (a .prev); outcome = told .outcome } ≡ checkOrPrevious (a .minimum) (a .cand) (a .prev)
   chosen o e =
       let v = c .before .args .prev in
-      (λ i. record { lsps = lspsUsed (sym e i) (told .lsps) v; outcome = sym e i })
+      (λ i. record { lsps = lspsUsed (sym e i) (told .lsps) v; outcome = told .outcome })
       ∙ (λ i. record { lsps = lspsUsed (answer i .outcome) (answer i .lsps) v; outcome = answer i .outcome })
 
-  -- so is what was told, where it goes with that
-  kept : (o : Outcome) → told .outcome ≡ o → told .lsps ≡ lspsUsed o (told .lsps) (c .before .args .prev) →
-      let a = c .before .args in told ≡ checkOrPrevious (a .minimum) (a .cand) (a .prev)
-  kept o e h = (λ i. record { lsps = h i; outcome = e i }) ∙ chosen o e
-
 returns : tie.Need-returns
-returns c = kept (c .before .before) Untouched (c .enum-told .given .1) refl
+returns c = chosen (c .before .before) Untouched (c .enum-told .given .1)
 
 returns-2 : tie.Need-returns-2
-returns-2 c = kept (c .before .before) Moved (c .enum-told2 .given .1) refl
+returns-2 c = chosen (c .before .before) Moved (c .enum-told2 .given .1)
 
 returns-3 : tie.Need-returns-3
 returns-3 c = chosen (c .before .before) Previous (c .enum-told3 .given .1)
