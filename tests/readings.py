@@ -247,7 +247,7 @@ INDEX = [
         "MEAN_LSP[i] + limit16(f->old_lsp[i] - MEAN_LSP[i]) * 12288 / 32768",
         "the share of the distance truncates",
     ),
-    ("index-unsettled", "    settle_lsps(f, 256);", "    if (!has_index(record[0])) settle_lsps(f, 256);", "candidates from an index are not stabilised"),
+    ("index-unsettled", "    settle_lsps(f, 256);", "    f->outcome = UNTOUCHED;\n    if (!has_index(record[0])) settle_lsps(f, 256);", "candidates from an index are not stabilised"),
     (
         "index-from-candidates",
         "    take_candidates(f, record);\n    settle_lsps(f, 256);",
@@ -753,13 +753,13 @@ PROGRAM = [
     (
         "r11-erased",
         "    if (number == 0)\n",
-        "    if (number == NOT_A_RECORD) second_decode(state, (const unsigned char *)\"\", 1, samples, FRAME);\n    if (number == 0)\n",
+        "    if (number == NOT_A_RECORD) second_decode(state, (const unsigned char *)\"\", 1, samples, FRAME, &outcome);\n    if (number == 0)\n",
         "a line that is no record changes the state like an erased frame",
     ),
     (
         "refused-erased",
         "    if (number == 0)\n",
-        "    if (number > 0 && number < NOT_A_RECORD) second_decode(state, (const unsigned char *)\"\", 1, samples, FRAME);\n    if (number == 0)\n",
+        "    if (number > 0 && number < NOT_A_RECORD) second_decode(state, (const unsigned char *)\"\", 1, samples, FRAME, &outcome);\n    if (number == 0)\n",
         "a refused record changes the state like an erased frame",
     ),
 ]
