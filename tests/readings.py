@@ -247,7 +247,12 @@ INDEX = [
         "MEAN_LSP[i] + limit16(f->old_lsp[i] - MEAN_LSP[i]) * 12288 / 32768",
         "the share of the distance truncates",
     ),
-    ("index-unsettled", "    settle_lsps(f, 256);", "    f->outcome = UNTOUCHED;\n    if (!has_index(record[0])) settle_lsps(f, 256);", "candidates from an index are not stabilised"),
+    (
+        "index-unsettled",
+        "    settle_lsps(f, 256);",
+        "    f->outcome = UNTOUCHED;\n    if (!has_index(record[0])) settle_lsps(f, 256);",
+        "candidates from an index are not stabilised",
+    ),
     (
         "index-from-candidates",
         "    take_candidates(f, record);\n    settle_lsps(f, 256);",
