@@ -563,7 +563,7 @@ def mended(rng, record, needed):
             return previous
 
 
-def given_way(rng, records):
+def unmended(rng, records):
     """Previous LSPs to which the candidates of each record give way, and would do as candidates themselves."""
     while True:
         previous = bits16(rng, LSPS)
@@ -581,13 +581,14 @@ def outcomes(rng):
             lsps = said(wanted, with_lsps(voiced(rng, kind), other), lsps)
             refused()
     # Moved to where the previous LSPs are, moved by all ten passes, and with every gap at the minimum.
-    assert said(MOVED, with_lsps(voiced(rng), STARRED), lsps) == lsps
-    lsps = said(MOVED, with_lsps(voiced(rng), TEN_PASSES), lsps)
+    again = said(MOVED, with_lsps(voiced(rng), STARRED), lsps)
+    assert again == lsps
+    lsps = said(MOVED, with_lsps(voiced(rng), TEN_PASSES), again)
     said(UNTOUCHED, with_lsps(voiced(rng), spaced(rng, MINIMUM, 1)), lsps)
 
 
 def outcomes_from_states(rng):
-    """Each outcome of the other kinds: only after LSPs without their gaps, of a given state, are theirs moved or previous."""
+    """Each outcome of a loss and of rows of zeros: moved or previous only after LSPs without their gaps, as a given state has."""
     by_index = [at_rows(rng, ROWS_OF_ZEROS, kind) for kind in (HIGH_INDEX, LOW_INDEX)]
     for record, needed in ((ERASED, 1), (ERASED, PASSES), (by_index[0], 1), (by_index[1], PASSES)):
         previous = mended(rng, record, needed)
@@ -596,7 +597,7 @@ def outcomes_from_states(rng):
         refused()
         said(UNTOUCHED, record, previous)
     # The previous LSPs stay, and are the candidates at last.
-    previous = given_way(rng, [ERASED, *by_index])
+    previous = unmended(rng, [ERASED, *by_index])
     from_previous(previous)
     for record in (ERASED, *by_index, with_lsps(voiced(rng), previous)):
         said(PREVIOUS, record, previous)
