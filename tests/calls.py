@@ -4,14 +4,14 @@
 Calls are High, Low and mixed, with losses of 1 to 6 frames after voiced and unvoiced speech, silence, saturation, unstable
 LSPs, extreme taps and lags at both ends, with the postfilter on and off. Every number is asked alone, with each lower one and
 with all lower ones true as well, and states at each bound of number 2 and one beyond. Then come states in which one step of
-voicing or gain decides, and LSPs of which a floor does; last records with an index: calls of them among the others, previous
-LSPs at their ends, and the numbers 4 to 10.
+voicing or gain decides, and LSPs of which a floor does; then records with an index: calls of them among the others, previous
+LSPs at their ends, and the numbers 4 to 10. Last, each outcome of stabilising for each kind, with refusals between them.
 """
 import math
 import random
 
 from places import *
-from questions import AT_ENDS, FLOORED, FROM_MEANS, index_rows, passes
+from questions import AT_ENDS, FLOORED, FROM_MEANS, STARRED, TEN_PASSES, at_edge, index_rows, limit16, outcome, passes, spaced, stabilised
 from signals import bits16, noise, periodic
 from voicing import EXACT, at_gate, level, ranked_otherwise, searched
 
@@ -153,6 +153,8 @@ def main():
     gate_decides(rng)
     index_calls(rng)
     index_numbers()
+    outcomes(rng)
+    outcomes_from_states(rng)
 
 
 def extremes(rng):
@@ -167,7 +169,7 @@ def extremes(rng):
         decode(ERASED)
     fresh()
     decode(voiced(rng))
-    for lsps in ([0] * LSPS, list(reversed(MEAN)), [LEAST] * LSPS, [MOST] * LSPS, bits16(rng, LSPS), [1000, 1100, *range(2000, 10000, 1000)], sorted(bits16(rng, LSPS))):
+    for lsps in ([0] * LSPS, list(reversed(MEAN)), [LEAST] * LSPS, [MOST] * LSPS, bits16(rng, LSPS), STARRED, sorted(bits16(rng, LSPS))):
         decode(with_lsps(voiced(rng), lsps))
     decode(ERASED)
     # Codes at both ends, and of lags at the longest one, at that of a train and where the voicing search leaves its tail.
@@ -444,7 +446,7 @@ def floored():
 # ---- records with an index
 
 # From the mean LSPs, rows whose candidates one pass moves, nine and all ten, and rows that give way to the previous LSPs.
-MOVED = ((69, 253, 111), (0, 236, 78), (0, 250, 78))
+MOVED_ROWS = ((69, 253, 111), (0, 236, 78), (0, 250, 78))
 GIVEN_WAY = (0, 255, 78)
 # Kinds in an order in which an index of either rate comes after each, after one loss and after more.
 IN_TURN = (3, 3, 4, 4, 3, 1, 4, 2, 3, 0, 4, 0, 0, 3, 2, 4, 1, 3, 0, 0, 0, 0, 3)
@@ -468,7 +470,7 @@ def index_calls(rng):
         # The first and the last row of each band.
         for rows in ((0, 0, 0), (255, 0, 0), (0, 255, 0), (0, 0, 255), (255, 255, 255)):
             decode(at_rows(rng, rows))
-        for rows in (*MOVED, GIVEN_WAY):
+        for rows in (*MOVED_ROWS, GIVEN_WAY):
             fresh(on)
             decode(at_rows(rng, rows))
             decode(voiced(rng, HIGH_INDEX))
@@ -512,6 +514,95 @@ def index_numbers():
         decode([kind] + record[1:])
     decode(plain)
     decode(quiet)
+
+
+# ---- what stabilising says
+
+# In 32768ths, the share of the previous LSPs' distance from the means that the candidates of a loss keep, and those of an index
+# whose rows are zeros, as row 0 of each band is.
+SHARE = {ERASED[0]: 23552, HIGH_INDEX: 12288, LOW_INDEX: 12288}
+ROWS_OF_ZEROS = [0] * BANDS
+
+
+def candidates(record, previous):
+    """The candidates of a record after these previous LSPs, and their minimum: to choose by, never to answer."""
+    if record == ERASED or has_index(record[0]):
+        assert record == ERASED or record[1 : HEAD[record[0]]] == ROWS_OF_ZEROS
+        lsps = [mean + (max(p - mean, LEAST) * SHARE[record[0]] >> 15) for p, mean in zip(previous, MEAN)]
+    else:
+        lsps = [int.from_bytes(record[i : i + 2], "big", signed=True) for i in range(1, HEAD[record[0]], 2)]
+    return lsps, MINIMUM_ERASED if record == ERASED else MINIMUM
+
+
+def said(wanted, record, previous):
+    """A record that is chosen for its outcome after these previous LSPs; the LSPs that it uses."""
+    lsps, minimum = candidates(record, previous)
+    assert outcome(lsps, minimum) == wanted
+    decode(record)
+    return previous if wanted == PREVIOUS else stabilised(lsps, minimum)[2]
+
+
+def refused():
+    decode([KIND_MOST + 1])
+
+
+def from_previous(lsps):
+    """A state with these previous LSPs, from which a loss is heard."""
+    f = fields()
+    f["prev_lsp"], f["gain_unvoiced"] = lsps, [5000]
+    state(f)
+
+
+def mended(rng, record, needed):
+    """Previous LSPs after which the candidates of a loss or of rows of zeros need so many passes and then have their gaps."""
+    _, minimum = candidates(record, MEAN)
+    while True:
+        near = at_edge(rng, minimum)
+        previous = [limit16(mean + (lsp - mean) * 32768 // SHARE[record[0]]) for lsp, mean in zip(near, MEAN)]
+        if passes(*candidates(record, previous)) == (needed, True):
+            return previous
+
+
+def unmended(rng, records):
+    """Previous LSPs to which the candidates of each record give way, and would do as candidates themselves."""
+    while True:
+        previous = bits16(rng, LSPS)
+        tried = [candidates(record, previous) for record in records] + [(previous, MINIMUM)]
+        if all(outcome(*one) == PREVIOUS for one in tried):
+            return previous
+
+
+def outcomes(rng):
+    """Each outcome of the kinds with LSPs, and after each a refusal, which has none."""
+    for kind in (HIGH, LOW):
+        fresh()
+        lsps = MEAN
+        for wanted, other in ((UNTOUCHED, near_mean(rng)), (MOVED, STARRED), (PREVIOUS, [0] * LSPS)):
+            lsps = said(wanted, with_lsps(voiced(rng, kind), other), lsps)
+            refused()
+    # Moved to where the previous LSPs are, moved by all ten passes, and with every gap at the minimum.
+    again = said(MOVED, with_lsps(voiced(rng), STARRED), lsps)
+    assert again == lsps
+    lsps = said(MOVED, with_lsps(voiced(rng), TEN_PASSES), again)
+    said(UNTOUCHED, with_lsps(voiced(rng), spaced(rng, MINIMUM, 1)), lsps)
+
+
+def outcomes_from_states(rng):
+    """Each outcome of a loss and of rows of zeros: moved or previous only after LSPs without their gaps, as a given state has."""
+    by_index = [at_rows(rng, ROWS_OF_ZEROS, kind) for kind in (HIGH_INDEX, LOW_INDEX)]
+    for record, needed in ((ERASED, 1), (ERASED, PASSES), (by_index[0], 1), (by_index[1], PASSES)):
+        previous = mended(rng, record, needed)
+        from_previous(previous)
+        previous = said(MOVED, record, previous)
+        refused()
+        said(UNTOUCHED, record, previous)
+    # The previous LSPs stay, and are the candidates at last.
+    previous = unmended(rng, [ERASED, *by_index])
+    from_previous(previous)
+    for record in (ERASED, *by_index, with_lsps(voiced(rng), previous)):
+        said(PREVIOUS, record, previous)
+        refused()
+    said(UNTOUCHED, voiced(rng), previous)
 
 
 if __name__ == "__main__":

@@ -12,7 +12,7 @@ import sys
 # A cache of the modules beside this script would be left in the repository.
 sys.dont_write_bytecode = True
 import signals
-from calls import GIVEN_WAY, MOVED, NO_TAPS, at_rows, block_limit, high, low, near_mean, put, silent, speech, unvoiced, voiced, with_lags, with_lsps, words, wrong
+from calls import GIVEN_WAY, MOVED_ROWS, NO_TAPS, at_rows, block_limit, high, low, near_mean, put, silent, speech, unvoiced, voiced, with_lags, with_lsps, words, wrong
 from places import *
 from questions import at_edge
 from signals import ALL, bits16
@@ -386,7 +386,7 @@ def off_centre(rng):
 def indexed(rng):
     """An index after each kind, a loss, an index that was moved and one that gave way to the previous LSPs."""
     yield from (ERASED, voiced(rng, HIGH_INDEX), voiced(rng, HIGH_INDEX), ERASED, ERASED, voiced(rng, LOW_INDEX), voiced(rng, HIGH_INDEX))
-    for rows in (MOVED[0], GIVEN_WAY, (255, 255, 255), (0, 0, 0)):
+    for rows in (MOVED_ROWS[0], GIVEN_WAY, (255, 255, 255), (0, 0, 0)):
         yield at_rows(rng, rows)
     yield from (voiced(rng), unvoiced(rng, HIGH_INDEX), ERASED)
 

@@ -15,6 +15,8 @@ SHORTEST_LAG, LONGEST_LAG = 18, 142
 MEAN = [3131, 4721, 7690, 10806, 13872, 16495, 19752, 22260, 25484, 27718]
 MINIMUM, MINIMUM_ERASED = 256, 512
 PASSES = 10
+# What stabilising says of candidate LSPs.
+UNTOUCHED, MOVED, PREVIOUS = 0, 1, 2
 
 # An erased record, and the kinds of the others; the last two have an index in place of the LSPs, a row of each band.
 ERASED = [0]

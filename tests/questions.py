@@ -3,9 +3,9 @@
 
 Operators of two operands: all pairs of edge values and a spread of others; l_mac a selection of them. Roots: at squares and
 beside them. Pairs of words: products, multiples, shifts, orders and quotients at edges and over a spread. LSPs: by classes of
-vectors, by the passes that stabilising them takes, and from an index at every row. Pulses: codes at their limits, at each
-change of the first slot and at each weight, and descriptions by lag, gain, signs and pulses that meet. Excitation, synthesis
-and postfilters: signals.py. Voicing and the noise word: voicing.py.
+vectors, by the passes that stabilising them takes, by its outcome, and from an index at every row. Pulses: codes at their
+limits, at each change of the first slot and at each weight, and descriptions by lag, gain, signs and pulses that meet.
+Excitation, synthesis and postfilters: signals.py. Voicing and the noise word: voicing.py.
 
 With --counts it prints instead how many vectors of LSPs and how many indices each class has, with --codes every position code
 of both counts.
@@ -16,7 +16,7 @@ import sys
 
 import signals
 import voicing
-from places import BANDS, CODE_LIMIT, FIRST_LAG, GAIN_MOST, LAST_BASE_LAG, LEAST, LONGEST_LAG, LSPS, MEAN, MINIMUM, MINIMUM_ERASED, MOST, PASSES, ROWS, SLOTS, SUB, TRAIN_LAG
+from places import BANDS, CODE_LIMIT, FIRST_LAG, GAIN_MOST, LAST_BASE_LAG, LEAST, LONGEST_LAG, LSPS, MEAN, MINIMUM, MINIMUM_ERASED, MOST, MOVED, PASSES, PREVIOUS, ROWS, SLOTS, SUB, TRAIN_LAG, UNTOUCHED
 
 EDGES16 = [LEAST, LEAST + 1, -16385, -16384, -16383, -257, -256, -2, -1, 0, 1, 2, 255, 256, 16383, 16384, 16385, MOST - 1, MOST]
 EDGES32 = [-2147483648, -2147483647, -1073741825, -1073741824, -65537, -65536, -32769, -32768, -1, 0, 1, 32767, 32768, 65535, 65536, 1073741823, 1073741824, 2147450879, 2147450880, 2147483646, 2147483647]
@@ -26,8 +26,9 @@ COUNTS = [-2147483647, -65536, -33, -32, -31, -17, -16, -15, -14, -13, -8, -1, 0
 WORDS = [0, 1, 2, 2**31, 2**32 - 1, 2**32, 2**32 + 1, 2**63 - 1, 2**63, 2**64 - 2, 2**64 - 1]
 PAIRS = [0, 1, 2**32 - 1, 2**32, 2**63, 2**64 - 1, 2**64, 2**64 + 1, 2**96 - 1, 2**96, 2**127, 2**127 + 2**63, 2**128 - 2**64, 2**128 - 1]
 MINIMA = [MINIMUM, MINIMUM_ERASED]
-# What no frame asks for, and the function takes.
+# What no frame asks for, and the functions take.
 OTHER_MINIMA = [LEAST, -257, -1, 0, 1, MINIMUM - 1, MINIMUM + 1, 4000, MOST]
+NEGATIVE_MINIMUM = -5
 # Codes that a field of fewer bits would take for small ones.
 LONG_CODES = [2**k + c for k in (18, 20, 24, 31) for c in (0, 5)] + [2**24 - 1, 2**32 - 1]
 SHIFTS = [0, 1, 2, 3, 24, 30, 31, 32, 33, 63, 64, 65, 96, 127, 128, 129, 4294967295]
@@ -119,19 +120,36 @@ def wide(rng):
                 ask("wide_divide", *two(n), *two(d))
 
 
-def passes(lsps, minimum):
-    """How many of ten passes move something, and whether every gap is then met: to choose questions by, never to answer."""
-    p = list(lsps)
+def limit16(x):
+    return min(max(x, LEAST), MOST)
+
+
+def stabilised(lsps, minimum):
+    """How many of ten passes move something, whether every gap is then met, and the LSPs: to choose by, never to answer."""
+    p, half = list(lsps), int(minimum / 2)
     for n in range(PASSES):
         moved = False
         for j in range(LSPS - 1):
             if p[j + 1] - p[j] < minimum:
                 average = (p[j] + p[j + 1]) // 2
-                p[j], p[j + 1] = max(average - minimum // 2, LEAST), min(average + minimum // 2, MOST)
+                p[j], p[j + 1] = limit16(average - half), limit16(average + half)
                 moved = True
         if not moved:
-            return n, True
-    return PASSES, all(p[j + 1] - p[j] >= minimum for j in range(LSPS - 1))
+            return n, True, p
+    return PASSES, all(p[j + 1] - p[j] >= minimum for j in range(LSPS - 1)), p
+
+
+def passes(lsps, minimum):
+    """How many passes LSPs need, and whether every gap is then met."""
+    return stabilised(lsps, minimum)[:2]
+
+
+def outcome(lsps, minimum):
+    """What stabilising says of LSPs."""
+    needed, met = passes(lsps, minimum)
+    if not met:
+        return PREVIOUS
+    return MOVED if needed > 0 else UNTOUCHED
 
 
 def at_edge(rng, minimum):
@@ -200,6 +218,12 @@ FLOORED = [
 ]
 
 
+# Document 01's value to check against, of which one pass moves the first pair.
+STARRED = [1000, 1100] + list(range(2000, 10000, 1000))
+# The case that document 02, E2, names: at 256 all ten passes move some, and the gaps are met then.
+TEN_PASSES = [5053, 6614, 7004, 9275, 9801, 15491, 15507, 15573, 15920, 21501]
+
+
 def classes(rng):
     """Vectors of LSPs by class; those by passes are for one minimum each."""
     found = {
@@ -211,7 +235,7 @@ def classes(rng):
         "descending": [ordered(rng)[::-1] for _ in range(20)] + [list(range(9000, -1000, -1000))],
         "close": [close(rng) for _ in range(20)],
         "extreme": EXTREME,
-        "starred": [[1000, 1100] + list(range(2000, 10000, 1000))],
+        "starred": [STARRED],
     }
     by_turns = {
         "moved by one to eight passes": [(n, True) for n in range(1, PASSES - 1)],
@@ -226,6 +250,67 @@ def classes(rng):
     return found
 
 
+def spaced(rng, minimum, more):
+    """LSPs whose gaps are the minimum, or more by less than so much."""
+    gaps = [minimum + rng.randrange(more) for _ in range(LSPS - 1)]
+    start = rng.randrange(-2000, 20000)
+    return [start + sum(gaps[:i]) for i in range(LSPS)]
+
+
+def unmoved(rng):
+    """LSPs that no pass moves, from the least number and to the greatest as well."""
+    found = {}
+    for minimum in MINIMA:
+        ends = [[LEAST + minimum * i for i in range(LSPS)], [MOST - minimum * i for i in reversed(range(LSPS))]]
+        found[f"moved by none, at {minimum}"] = ends + [spaced(rng, minimum, more) for more in (1, 1, 2, 20)]
+    return found
+
+
+def own_minimum(name):
+    """The minimum of a class by passes."""
+    return int(name.rsplit(" ", 1)[1])
+
+
+def by_outcome(vectors, minimum, each):
+    """Of each outcome that some of the vectors have at a minimum, the first ones."""
+    found = {UNTOUCHED: [], MOVED: [], PREVIOUS: []}
+    for p in vectors:
+        found[outcome(p, minimum)].append(p)
+    return [p for some in found.values() for p in some[:each]]
+
+
+def more_stabilising(still, plain):
+    """LSPs that no pass moves, also with a gap one short of the minimum, those of E2, and an odd minimum below 0."""
+    for name, found in still.items():
+        for p in found:
+            ask("lsp_stability", own_minimum(name), *p)
+            ask("lsp_stability", own_minimum(name), *p[:-1], p[-1] - 1)
+    for minimum in MINIMA:
+        ask("lsp_stability", minimum, *TEN_PASSES)
+    for p in by_outcome(EXTREME, NEGATIVE_MINIMUM, 2) + by_outcome(plain, NEGATIVE_MINIMUM, 2):
+        ask("lsp_stability", NEGATIVE_MINIMUM, *p)
+
+
+def choices(rng, own, plain):
+    """The choice between candidates and previous LSPs: by passes, each class at its own minimum; at the ends of 16 bits; with
+    previous LSPs that are the candidates themselves, or what these become; and by outcome at other minima."""
+    for name, found in own.items():
+        minimum = own_minimum(name)
+        for p in found[::5]:
+            ask("lsp_check_or_previous", minimum, *p, *rng.choice(plain))
+        for p in found[1::10]:
+            ask("lsp_check_or_previous", minimum, *p, *p)
+    for minimum in MINIMA:
+        for p in by_outcome(EXTREME, minimum, 3) + [TEN_PASSES]:
+            ask("lsp_check_or_previous", minimum, *p, *rng.choice(plain))
+        ask("lsp_check_or_previous", minimum, *EXTREME[0], *EXTREME[0])
+    for p in (STARRED, TEN_PASSES):
+        ask("lsp_check_or_previous", MINIMUM, *p, *stabilised(p, MINIMUM)[2])
+    for minimum in OTHER_MINIMA + [NEGATIVE_MINIMUM]:
+        for p in by_outcome(EXTREME, minimum, 1) + by_outcome(plain, minimum, 1):
+            ask("lsp_check_or_previous", minimum, *p, *rng.choice(plain))
+
+
 def lsps(rng):
     for f in [LEAST, LEAST + 1, -129, -128, -127, -5, -1] + [128 * i + r for i in range(256) for r in (0, 1, 64, 127)]:
         ask("cos_q14", f)
@@ -238,8 +323,13 @@ def lsps(rng):
     for p in plain[::5] + EXTREME:
         for minimum in OTHER_MINIMA:
             ask("lsp_stability", minimum, *p)
+    # A start of their own, so that what is drawn after them stays.
+    others = random.Random(7231)
+    still = unmoved(others)
+    more_stabilising(still, plain)
     for p in vectors[::2]:
         ask("lsp_check_or_previous", rng.choice(MINIMA), *p, *rng.choice(plain))
+    choices(others, {**still, **{name: found for name, found in by_class.items() if ", at" in name}}, plain)
     for p in plain:
         ask("lsp_extrapolate", *p)
         ask("lsp_to_lpc_q13", *p)
@@ -358,7 +448,8 @@ def main():
                 ask("fcbk_unpk_positions", c, n)
         return
     if "--counts" in sys.argv[1:]:
-        for name, found in {**classes(random.Random(7231)), **indices(random.Random(7231))}.items():
+        counted = [classes(random.Random(7231)), unmoved(random.Random(7231)), indices(random.Random(7231))]
+        for name, found in [item for some in counted for item in some.items()]:
             print(f"{len(found):4} {name}")
         return
     operators(rng)

@@ -1,7 +1,7 @@
 """Wrong readings of documents 01 and 02, each as one change to the second decoder (tests/mutations tries them).
 
 A reading has a name, a file, a fragment that stands there exactly once, what takes its place, and what it says. Readings that
-come to the same samples and states as the right one are not listed.
+come to the same samples, states and outcomes as the right one are not listed.
 """
 import collections
 
@@ -247,7 +247,13 @@ INDEX = [
         "MEAN_LSP[i] + limit16(f->old_lsp[i] - MEAN_LSP[i]) * 12288 / 32768",
         "the share of the distance truncates",
     ),
-    ("index-unsettled", "    settle_lsps(f, 256);", "    if (!has_index(record[0])) settle_lsps(f, 256);", "candidates from an index are not stabilised"),
+    ("index-512", "settle_lsps(f, 256);", "settle_lsps(f, has_index(record[0]) ? 512 : 256);", "minimum 512 from an index"),
+    (
+        "index-unsettled",
+        "    settle_lsps(f, 256);",
+        "    f->outcome = UNTOUCHED;\n    if (!has_index(record[0])) settle_lsps(f, 256);",
+        "candidates from an index are not stabilised",
+    ),
     (
         "index-from-candidates",
         "    take_candidates(f, record);\n    settle_lsps(f, 256);",
@@ -259,6 +265,97 @@ INDEX = [
         "    take_candidates(f, record);\n    settle_lsps(f, 256);",
         "    static int64_t old[LSPS], heard[LSPS];\n    for (int i = 0; i < LSPS; i++) { old[i] = f->old_lsp[i]; if (f->run > 0) f->old_lsp[i] = heard[i]; }\n    take_candidates(f, record);\n    for (int i = 0; i < LSPS; i++) f->old_lsp[i] = old[i];\n    settle_lsps(f, 256);\n    for (int i = 0; i < LSPS; i++) heard[i] = f->lsp[i];",
         "after a loss an index adds to the LSPs of the last received frame",
+    ),
+]
+
+# Document 02, E2. Most of them leave samples and states as they are.
+OUTCOME = [
+    ("outcome-0", "    *outcome = f.outcome;", "    *outcome = UNTOUCHED;", "always untouched"),
+    ("outcome-1", "    *outcome = f.outcome;", "    *outcome = MOVED;", "always moved"),
+    ("outcome-2", "    *outcome = f.outcome;", "    *outcome = PREVIOUS;", "always the previous LSPs"),
+    ("outcome-0-1", "pass == 0 ? UNTOUCHED : MOVED", "pass == 0 ? MOVED : UNTOUCHED", "untouched and moved swapped"),
+    (
+        "outcome-1-2",
+        "    *outcome = f.outcome;",
+        "    *outcome = f.outcome == MOVED ? PREVIOUS : f.outcome == PREVIOUS ? MOVED : UNTOUCHED;",
+        "moved and previous swapped",
+    ),
+    ("outcome-previous-moved", "    f->outcome = PREVIOUS;\n", "", "LSPs that were moved and gave way are moved"),
+    ("outcome-previous-untouched", "    f->outcome = PREVIOUS;", "    f->outcome = UNTOUCHED;", "the previous LSPs are untouched ones"),
+    ("outcome-ten-untouched", "pass == 0 ? UNTOUCHED", "pass % PASSES == 0 ? UNTOUCHED", "moved by all ten passes and met is untouched"),
+    ("outcome-ten-previous", "UNTOUCHED : MOVED;", "UNTOUCHED : pass < PASSES ? MOVED : PREVIOUS;", "moved by all ten passes and met is previous"),
+    ("outcome-ten-alone", "pass == 0 ? UNTOUCHED", "pass < PASSES ? UNTOUCHED", "the last pass decides: a still one says untouched"),
+    ("outcome-second-pass", "pass == 0 ? UNTOUCHED", "pass <= 1 ? UNTOUCHED", "untouched where the second pass is still"),
+    (
+        "outcome-at-minimum",
+        "if (lsp[i + 1] - lsp[i] >= minimum)",
+        "if (lsp[i + 1] - lsp[i] > minimum)",
+        "a pair at the minimum is moved, to where it was",
+    ),
+    (
+        "outcome-from-previous",
+        "    f->outcome = pass == 0 ? UNTOUCHED : MOVED;",
+        "    f->outcome = UNTOUCHED;\n    for (int i = 0; i < LSPS; i++) if (f->lsp[i] != f->old_lsp[i]) f->outcome = MOVED;",
+        "moved are LSPs that differ from the previous ones",
+    ),
+    (
+        "outcome-moved-unlike-previous",
+        "    f->outcome = pass == 0 ? UNTOUCHED : MOVED;",
+        "    int alike = 1;\n    for (int i = 0; i < LSPS; i++) alike &= f->lsp[i] == f->old_lsp[i];\n    f->outcome = pass == 0 || alike ? UNTOUCHED : MOVED;",
+        "LSPs that are moved to where the previous ones were are untouched",
+    ),
+    (
+        "outcome-like-previous",
+        "    f->outcome = pass == 0 ? UNTOUCHED : MOVED;",
+        "    f->outcome = pass == 0 ? UNTOUCHED : MOVED;\n    int alike = 1;\n    for (int i = 0; i < LSPS; i++) alike &= f->lsp[i] == f->old_lsp[i];\n    if (alike) f->outcome = PREVIOUS;",
+        "LSPs that equal the previous ones are taken for these",
+    ),
+    (
+        "outcome-candidate-untouched",
+        "    settle_lsps(f, 256);",
+        "    int alike = 1;\n    for (int i = 0; i < LSPS; i++) alike &= f->lsp[i] == f->old_lsp[i];\n    settle_lsps(f, 256);\n    if (alike && f->outcome == PREVIOUS) f->outcome = UNTOUCHED;",
+        "previous LSPs that equal the candidate are untouched",
+    ),
+    (
+        "outcome-candidate-moved",
+        "    settle_lsps(f, 256);",
+        "    int alike = 1;\n    for (int i = 0; i < LSPS; i++) alike &= f->lsp[i] == f->old_lsp[i];\n    settle_lsps(f, 256);\n    if (alike && f->outcome == PREVIOUS) f->outcome = MOVED;",
+        "previous LSPs that equal the candidate are moved ones",
+    ),
+    ("outcome-erased-0", "    settle_lsps(f, 512);", "    settle_lsps(f, 512);\n    f->outcome = UNTOUCHED;", "an erased frame is always untouched"),
+    ("outcome-erased-2", "    settle_lsps(f, 512);", "    settle_lsps(f, 512);\n    f->outcome = PREVIOUS;", "an erased frame always has the previous LSPs"),
+    ("outcome-erased-none", "    settle_lsps(f, 512);", "    settle_lsps(f, 512);\n    f->outcome = NO_OUTCOME;", "an erased frame has no outcome"),
+    (
+        "outcome-erased-256",
+        "    settle_lsps(f, 512);",
+        "    struct frame other = *f;\n    settle_lsps(&other, 256);\n    settle_lsps(f, 512);\n    f->outcome = other.outcome;",
+        "the outcome of an erased frame by the minimum of received ones",
+    ),
+    (
+        "outcome-erased-before",
+        "    *outcome = f.outcome;",
+        "    static int before;\n    if (record[0] != ERASED) before = f.outcome;\n    *outcome = before;",
+        "an erased frame has the outcome of the last received one",
+    ),
+    (
+        "outcome-index-0",
+        "    settle_lsps(f, 256);",
+        "    settle_lsps(f, 256);\n    if (has_index(record[0])) f->outcome = UNTOUCHED;",
+        "candidates from an index are always untouched",
+    ),
+    (
+        "outcome-kept",
+        "    *outcome = f.outcome;",
+        "    static int before;\n    if (f.outcome != UNTOUCHED) before = f.outcome;\n    *outcome = before;",
+        "an untouched frame has the outcome of the frame before",
+    ),
+    ("outcome-refused-0", "    *outcome = NO_OUTCOME;", "    *outcome = UNTOUCHED;", "a refused record is untouched"),
+    ("outcome-refused-2", "    *outcome = NO_OUTCOME;", "    *outcome = PREVIOUS;", "a refused record has the previous LSPs"),
+    (
+        "outcome-refused-before",
+        "    struct frame f;\n    int number = refusal(state, record, length, count);\n    *outcome = NO_OUTCOME;",
+        "    static struct frame f = {.outcome = NO_OUTCOME};\n    int number = refusal(state, record, length, count);\n    *outcome = f.outcome;",
+        "a refused record has the outcome of the frame before",
     ),
 ]
 
@@ -743,6 +840,12 @@ PROGRAM = [
         "memcpy(at, pair_text[bits % 256], 2);\n        memcpy(at + 2, pair_text[bits / 256], 2);",
         "samples are little-endian",
     ),
+    (
+        "outcome-printed",
+        "        print_samples(samples);\n",
+        "    {\n        char text[8];\n        print_samples(samples);\n        print(text, snprintf(text, sizeof text, \"%d\\n\", outcome));\n    }\n",
+        "the outcome is printed after the samples",
+    ),
     ("no-postfilter", "second_fresh(state, 1);", "second_fresh(state, 0);", "without postfilter"),
     (
         "r11-new-call",
@@ -753,17 +856,17 @@ PROGRAM = [
     (
         "r11-erased",
         "    if (number == 0)\n",
-        "    if (number == NOT_A_RECORD) second_decode(state, (const unsigned char *)\"\", 1, samples, FRAME);\n    if (number == 0)\n",
+        "    if (number == NOT_A_RECORD) second_decode(state, (const unsigned char *)\"\", 1, samples, FRAME, &outcome);\n    if (number == 0)\n",
         "a line that is no record changes the state like an erased frame",
     ),
     (
         "refused-erased",
         "    if (number == 0)\n",
-        "    if (number > 0 && number < NOT_A_RECORD) second_decode(state, (const unsigned char *)\"\", 1, samples, FRAME);\n    if (number == 0)\n",
+        "    if (number > 0 && number < NOT_A_RECORD) second_decode(state, (const unsigned char *)\"\", 1, samples, FRAME, &outcome);\n    if (number == 0)\n",
         "a refused record changes the state like an erased frame",
     ),
 ]
 
-DECODER = OPERATORS + RECORD + NUMBERS + LSPS + INDEX + PULSES + ADAPTIVE + PITCH + SYNTHESIS + FORMANT + ERASURE + FRAME
+DECODER = OPERATORS + RECORD + NUMBERS + LSPS + INDEX + OUTCOME + PULSES + ADAPTIVE + PITCH + SYNTHESIS + FORMANT + ERASURE + FRAME
 FILES = {"decoder.c": DECODER, "tables.h": TABLES, "places.h": PLACES, "frames.c": PROGRAM}
 READINGS = [Reading(name, file, *rest) for file, rows in FILES.items() for name, *rest in rows]

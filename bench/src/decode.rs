@@ -1,5 +1,6 @@
 //! Decode alone: bytes of a record to samples, for both with the tests of numbers 2 to 10 and without text. Ours is called
-//! through a door that copies the state in and out for every frame; the Rust changes its own in place.
+//! through a door that copies the state in and out for every frame, and says what stabilising did; the Rust changes its own in
+//! place, and is timed without the outcome, which it does not say.
 
 use std::hint::black_box;
 use std::time::Instant;
@@ -56,15 +57,16 @@ fn losses(records: &Records) -> Vec<Run> {
     runs
 }
 
-/// Both give equal samples.
+/// Both give equal outcomes and samples.
 fn check(name: &str, runs: &[Run]) -> Result<(), String> {
     for run in runs {
         let (mut ours, mut rust) = (Ours::from_numbers(&run.start), rust_state(run));
         for (i, bytes) in run.records.iter().enumerate() {
             let mut samples = [0; FRAME];
-            let number = ours.decode(bytes, &mut samples);
-            if number != 0 || record::decode(&mut rust, bytes) != Ok(samples) {
-                return Err(format!("{name}: record {i} has other samples, or number {number}"));
+            let (number, outcome) = ours.decode(bytes, &mut samples);
+            let wanted = record::decode_with_outcome(&mut rust, bytes).map(|(outcome, samples)| (outcome as u8, samples));
+            if number != 0 || wanted != Ok((outcome, samples)) {
+                return Err(format!("{name}: record {i} has another outcome or other samples, or number {number}"));
             }
         }
         if ours.to_numbers() != state::to_numbers(&rust) {

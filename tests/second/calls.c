@@ -7,7 +7,8 @@
  *   S   a state: its numbers, four bytes each
  *   D   a record: the first field is the length of the samples, each of which is the second field before
  *
- * The answer is a number and the checksums of the samples and of the state. At a line that is none it ends with `?`.
+ * The answer is a number, the outcome, 3 where no frame was decoded, and the checksums of the samples and of the state.
+ * At a line that is none it ends with `?`.
  */
 #include <stdint.h>
 #include <stdio.h>
@@ -63,18 +64,19 @@ static int64_t number_at(int k)
     return k == AT_RUN || bits < 1LL << 31 ? bits : bits - (1LL << 32);
 }
 
-/* The number of a record, whose samples all hold a mark before. */
-static int decode(void)
+/* The number and the outcome of a record, whose samples all hold a mark before. */
+static int decode(int *outcome)
 {
     for (unsigned i = 0; i < line.first; i++)
         samples[i] = line.second < 32768 ? line.second : line.second - 65536LL;
-    return second_decode(state, line.bytes, line.count, samples, line.first);
+    return second_decode(state, line.bytes, line.count, samples, line.first, outcome);
 }
 
 /* Answers a line; 0 if it is none. */
 static int answer(void)
 {
     int number = 0;
+    int outcome = NO_OUTCOME;
     size_t length = 0;
     if (line.letter == 'F') {
         second_fresh(state, line.first == 1);
@@ -82,12 +84,13 @@ static int answer(void)
         for (int k = 0; k < STATE_NUMBERS; k++)
             state[k] = number_at(k);
     } else if (line.letter == 'D') {
-        number = decode();
+        number = decode(&outcome);
         length = line.first;
     } else {
         return 0;
     }
-    printf("%d %lld %lld\n", number, (long long)checksum(samples, length), (long long)checksum(state, STATE_NUMBERS));
+    printf("%d %d ", number, outcome);
+    printf("%lld %lld\n", (long long)checksum(samples, length), (long long)checksum(state, STATE_NUMBERS));
     return 1;
 }
 

@@ -9,7 +9,7 @@
 
 typedef __int128 wide;
 
-/* One frame: signals over time, and the numbers of the state that it reads or changes. */
+/* One frame: signals over time, the numbers of the state that it reads or changes, and the outcome of its LSPs. */
 struct frame {
     int64_t old_lsp[LSPS];
     int64_t lsp[LSPS];
@@ -31,6 +31,7 @@ struct frame {
     int64_t unvoiced_gain;
     int64_t run;
     int64_t postfilter;
+    int outcome;
 };
 
 /* A lag and its two sums; distance 0 is no lag. */
@@ -253,14 +254,19 @@ static int gaps_kept(const int64_t lsp[LSPS], int64_t minimum)
     return 1;
 }
 
-/* "LSPs": the candidates in f->lsp are stabilised, or give way to the previous LSPs. */
+/*
+ * "LSPs" and document 02, E2: the candidates in f->lsp are stabilised, or give way to the previous LSPs. They are
+ * untouched where the first pass moves nothing.
+ */
 static void settle_lsps(struct frame *f, int64_t minimum)
 {
     int pass = 0;
     while (pass < PASSES && spread_pairs(f->lsp, minimum))
         pass++;
+    f->outcome = pass == 0 ? UNTOUCHED : MOVED;
     if (gaps_kept(f->lsp, minimum))
         return;
+    f->outcome = PREVIOUS;
     for (int i = 0; i < LSPS; i++)
         f->lsp[i] = f->old_lsp[i];
 }
@@ -809,12 +815,13 @@ void second_fresh(int64_t state[STATE_NUMBERS], int postfilter)
     state[AT_POSTFILTER] = postfilter;
 }
 
-/* "Frame" and "The ten numbers": nothing is written before the last check. */
+/* "Frame", "The ten numbers" and document 02, E2: of state and samples nothing is written before the last check. */
 int second_decode(int64_t state[STATE_NUMBERS], const unsigned char *record, size_t length, int64_t *samples,
-                  size_t count)
+                  size_t count, int *outcome)
 {
     struct frame f;
     int number = refusal(state, record, length, count);
+    *outcome = NO_OUTCOME;
     if (number != 0)
         return number;
     open_frame(&f, state);
@@ -824,5 +831,6 @@ int second_decode(int64_t state[STATE_NUMBERS], const unsigned char *record, siz
         received_frame(&f, record);
     close_frame(&f, state);
     copy(samples, f.output, FRAME);
+    *outcome = f.outcome;
     return 0;
 }

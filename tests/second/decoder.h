@@ -18,8 +18,11 @@
 /* A fresh state, with the postfilter (1) or without (0). */
 void second_fresh(int64_t state[STATE_NUMBERS], int postfilter);
 
-/* 0 with the samples and the next state written, or a number of 1 to 10 with both untouched. */
+/*
+ * 0 with the samples and the next state written, or a number of 1 to 10 with both as they were. The outcome is always
+ * written: what stabilising says of the frame's LSPs, 0 to 2, and 3 where the record is refused.
+ */
 int second_decode(int64_t state[STATE_NUMBERS], const unsigned char *record, size_t length, int64_t *samples,
-                  size_t count);
+                  size_t count, int *outcome);
 
 #endif

@@ -115,9 +115,10 @@ static void answer(struct line *line)
 {
     unsigned char record[LONGEST_LINE / 2];
     int64_t samples[FRAME];
+    int outcome;
     int number = NOT_A_RECORD;
     if (read_pairs(line, record))
-        number = second_decode(state, record, line->length / 2, samples, FRAME);
+        number = second_decode(state, record, line->length / 2, samples, FRAME, &outcome);
     if (number == 0)
         print_samples(samples);
     else

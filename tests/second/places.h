@@ -88,6 +88,9 @@ enum {
     STATE_NUMBERS = AT_POSTFILTER + 1
 };
 
+/* What stabilising says of a frame's candidate LSPs; the last stands where no frame was decoded. */
+enum { UNTOUCHED = 0, MOVED = 1, PREVIOUS = 2, NO_OUTCOME = 3 };
+
 /* The bounds of number 2 that are not those of 16 bits. */
 enum {
     MOST_GAIN = 1048576,

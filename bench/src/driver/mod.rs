@@ -4,6 +4,9 @@
 pub mod frame;
 mod layers;
 #[allow(dead_code)]
+#[path = "../../../tests/oracle/src/driver/outcome.rs"]
+pub mod outcome;
+#[allow(dead_code)]
 #[path = "../../../tests/oracle/src/driver/state.rs"]
 pub mod state;
 

@@ -1,4 +1,4 @@
-//! In process: numbers, samples and whole states.
+//! In process: numbers, outcomes, samples and whole states.
 //!
 //! Records in calls of up to 40 from fresh states, and records from a state each with every field free within the bounds of
 //! number 2, now and then just outside.
@@ -9,6 +9,7 @@ use std::time::Instant;
 use crate::decoders::{self, Decoder};
 use crate::options::Options;
 use crate::places::{AT_POSTFILTER, FRAME, LEAST, LENGTHS, MOST, NOT_A_RECORD, STATE_NUMBERS, SUBFRAME};
+use crate::qdec::driver::outcome::NO_OUTCOME;
 use crate::qdec::driver::state;
 use crate::random::Random;
 use crate::records::{self, Class};
@@ -17,13 +18,15 @@ use crate::{SOURCES, states, workers};
 
 /// Frames or states of a piece of work.
 const PIECE: u64 = 500;
+/// The outcomes that a frame can have.
+const OUTCOMES: usize = NO_OUTCOME as usize;
 
-/// Frames by class, and what else was met.
+/// Frames by kind and outcome, and what else was met.
 #[derive(Default)]
 struct Counts {
     frames: u64,
     states: u64,
-    kinds: [u64; LENGTHS.len()],
+    kinds: [[u64; OUTCOMES]; LENGTHS.len()],
     numbers: [u64; NOT_A_RECORD as usize],
     postfilter_off: u64,
 }
@@ -31,6 +34,7 @@ struct Counts {
 /// What a decoder hands back.
 struct Answer {
     number: u8,
+    outcome: u8,
     samples: Vec<i64>,
     state: Vec<i128>,
 }
@@ -111,7 +115,7 @@ fn one_call(random: &mut Random, list: Vec<i128>, length: u64, counts: &mut Coun
                 return Err(format!("{name}: {text}\nrecord {record:?}\nsamples {}\nstate {before:?}", given.len()));
             }
         }
-        counts.count(&record, wanted.number, before[AT_POSTFILTER] == 0);
+        counts.count(&record, &wanted, before[AT_POSTFILTER] == 0);
         before = wanted.state;
     }
     Ok(())
@@ -128,14 +132,17 @@ fn samples(random: &mut Random) -> Vec<i64> {
 
 fn answer(decoder: &mut dyn Decoder, record: &[u8], given: &[i64]) -> Answer {
     let mut samples = given.to_vec();
-    let number = decoder.decode(record, &mut samples);
-    Answer { number, samples, state: decoder.numbers() }
+    let (number, outcome) = decoder.decode(record, &mut samples);
+    Answer { number, outcome, samples, state: decoder.numbers() }
 }
 
 /// The first thing that differs from the Rust's answer.
 fn difference(got: &Answer, wanted: &Answer) -> Option<String> {
     if got.number != wanted.number {
         return Some(format!("number {}, the Rust {}", got.number, wanted.number));
+    }
+    if got.outcome != wanted.outcome {
+        return Some(format!("outcome {}, the Rust {}", got.outcome, wanted.outcome));
     }
     let (a, b) = (&got.samples, &wanted.samples);
     if let Some(i) = (0..b.len()).find(|&i| a[i] != b[i]) {
@@ -147,11 +154,11 @@ fn difference(got: &Answer, wanted: &Answer) -> Option<String> {
 }
 
 impl Counts {
-    fn count(&mut self, record: &[u8], number: u8, postfilter_off: bool) {
-        self.numbers[usize::from(number)] += 1;
+    fn count(&mut self, record: &[u8], answer: &Answer, postfilter_off: bool) {
+        self.numbers[usize::from(answer.number)] += 1;
         self.postfilter_off += u64::from(postfilter_off);
-        if number == 0 {
-            self.kinds[usize::from(record[0])] += 1;
+        if answer.number == 0 {
+            self.kinds[usize::from(record[0])][usize::from(answer.outcome)] += 1;
         }
     }
 
@@ -159,12 +166,16 @@ impl Counts {
         self.frames += other.frames;
         self.states += other.states;
         self.postfilter_off += other.postfilter_off;
-        self.kinds.iter_mut().zip(other.kinds).for_each(|(a, b)| *a += b);
+        self.kinds.as_flattened_mut().iter_mut().zip(other.kinds.as_flattened()).for_each(|(a, b)| *a += b);
         self.numbers.iter_mut().zip(other.numbers).for_each(|(a, b)| *a += b);
     }
 
     fn text(&self, seconds: f64) -> String {
-        let [erased, high, low, high_index, low_index] = self.kinds;
+        let kind = |lsps: [u64; OUTCOMES]| {
+            let [untouched, moved, previous] = lsps;
+            format!("{} (LSPs untouched {untouched}, moved {moved}, previous {previous})", lsps.iter().sum::<u64>())
+        };
+        let [erased, high, low, high_index, low_index] = self.kinds.map(kind);
         let refused: Vec<String> = (1..11).map(|n| format!("{n}: {}", self.numbers[n])).collect();
         format!(
             "compare: {} records in calls and {} from arbitrary states, ours and the second equal with the {} Rust files: \

@@ -3,9 +3,9 @@
 //!   compare frames [--frames N] [--states N] [--seconds S] [--seed X]
 //!   compare lines [--lines N] [--seconds S] [--seed X] [--keep DIRECTORY] NAME=COMMAND NAME=COMMAND..
 //!
-//! `frames` compares in process: numbers, samples and whole states. `lines` runs programs `frames` over the same text; the
-//! first program named is the one that the others are compared with. A difference ends either with the smallest thing that
-//! differs and status 1.
+//! `frames` compares in process: numbers, outcomes, samples and whole states. `lines` runs programs `frames` over the same
+//! text; the first program named is the one that the others are compared with. A difference ends either with the smallest thing
+//! that differs and status 1.
 
 #[allow(dead_code)]
 #[path = "../../oracle/src/numbers.rs"]

@@ -14,6 +14,7 @@ unsafe extern "C" {
         pcm_hist: &mut [i16; TAIL],
         erased_run: &mut [u32; 1],
         postfilter: bool,
+        outcome: &mut [u8; 1],
         record: *const u8,
         record_length: usize,
         samples: *mut i16,
@@ -74,10 +75,12 @@ impl Ours {
         list
     }
 
-    /// The number, 0 where the record was accepted.
-    pub fn decode(&mut self, record: &[u8], samples: &mut [i16]) -> u8 {
+    /// The number, 0 where the record was accepted, and the outcome.
+    pub fn decode(&mut self, record: &[u8], samples: &mut [i16]) -> (u8, u8) {
+        // Every call writes it; what stands here is none.
+        let mut outcome = [u8::MAX];
         // SAFETY: both slices are as long as is said, and nothing else refers to the samples.
-        unsafe {
+        let number = unsafe {
             ours_decode(
                 &mut self.prev_lsp,
                 &mut self.exc_hist,
@@ -89,11 +92,13 @@ impl Ours {
                 &mut self.pcm_hist,
                 &mut self.erased_run,
                 self.postfilter,
+                &mut outcome,
                 record.as_ptr(),
                 record.len(),
                 samples.as_mut_ptr(),
                 samples.len(),
             )
-        }
+        };
+        (number, outcome[0])
     }
 }

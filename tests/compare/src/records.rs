@@ -13,7 +13,7 @@ pub enum Class {
     Faulty,
 }
 
-const MEAN: [i64; LSPS] = [
+pub const MEAN: [i64; LSPS] = [
     3131, 4721, 7690, 10806, 13872, 16495, 19752, 22260, 25484, 27718,
 ];
 

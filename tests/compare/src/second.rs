@@ -9,6 +9,7 @@ unsafe extern "C" {
         length: usize,
         samples: *mut i64,
         count: usize,
+        outcome: &mut i32,
     ) -> i32;
     fn second_fresh(state: &mut [i64; STATE_NUMBERS], postfilter: i32);
 }
@@ -32,12 +33,15 @@ impl Second {
         self.0.map(i128::from).to_vec()
     }
 
-    /// The number, 0 where the record was accepted.
-    pub fn decode(&mut self, record: &[u8], samples: &mut [i64]) -> u8 {
+    /// The number, 0 where the record was accepted, and the outcome.
+    pub fn decode(&mut self, record: &[u8], samples: &mut [i64]) -> (u8, u8) {
+        // Every call writes it; what stands here is none.
+        let mut outcome = -1;
         // SAFETY: both slices are as long as is said, and nothing else refers to the samples.
         let number = unsafe {
-            second_decode(&mut self.0, record.as_ptr(), record.len(), samples.as_mut_ptr(), samples.len())
+            second_decode(&mut self.0, record.as_ptr(), record.len(), samples.as_mut_ptr(), samples.len(), &mut outcome)
         };
-        u8::try_from(number).expect("a number of 0 to 10")
+        let small = |value: i32| u8::try_from(value).expect("a number of 0 to 10, an outcome of 0 to 3");
+        (small(number), small(outcome))
     }
 }

@@ -2,15 +2,12 @@
 
 use crate::places::*;
 use crate::random::Random;
+use crate::records::MEAN;
 
-/// The numbers of a state, in the order of the oracle's state.rs. Previous LSPs are often below the mean less 32768, where the
-/// distance that `lsp_decode` forms saturates.
+/// The numbers of a state, in the order of the oracle's state.rs.
 pub fn arbitrary(random: &mut Random) -> Vec<i128> {
     let loudness = [0, 9, 900, MOST][random.below(4) as usize];
-    let mut list: Vec<i64> = (0..LSPS).map(|_| random.within(LEAST, MOST)).collect();
-    if random.below(2) == 0 {
-        list.sort();
-    }
+    let mut list = lsps(random);
     let period = (SHORTEST_LAG + random.below(110)) as usize;
     let repeats = random.below(2) == 0;
     let within = |random: &mut Random, (low, high): (i64, i64)| random.within(low, high);
@@ -26,6 +23,27 @@ pub fn arbitrary(random: &mut Random) -> Vec<i128> {
     let run = random.mostly_below(6, &[0, u32::MAX - 1, u32::MAX]);
     list.extend([i64::from(run), i64::from(random.below(2))]);
     list.into_iter().map(i128::from).collect()
+}
+
+/// Previous LSPs, often below the mean less 32768, where the distance that `lsp_decode` forms saturates.
+fn lsps(random: &mut Random) -> Vec<i64> {
+    if random.below(8) == 0 {
+        return near_minimum(random);
+    }
+    let mut list: Vec<i64> = (0..LSPS).map(|_| random.within(LEAST, MOST)).collect();
+    if random.below(2) == 0 {
+        list.sort();
+    }
+    list
+}
+
+/// Previous LSPs of which an erased frame has candidates with gaps near its minimum: any number of passes moves some, all ten
+/// too, which hardly happens by chance.
+fn near_minimum(random: &mut Random) -> Vec<i64> {
+    let low = random.within(-8_000, 20_000);
+    let candidates: Vec<i64> = (0..LSPS as i64).map(|k| low + 512 * k + random.within(-20, 20)).collect();
+    // 23 of 32 parts of their distance from the mean are kept.
+    candidates.iter().zip(MEAN).map(|(lsp, mean)| (mean + (lsp - mean) * 32 / 23).clamp(LEAST, MOST)).collect()
 }
 
 /// Puts a number of a field that number 2 tests out of its bounds, mostly just.

@@ -7,25 +7,36 @@
 //! D   a record: the first field is the length of the samples, each of which is the second field before
 //! ```
 //!
-//! The answer is a number, 0 but for a record that was refused, and the checksums of the samples and of the state: a
-//! polynomial in 1000003 modulo the prime 2^43 - 57, so that each number and its place count.
+//! The answer is a number, 0 but for a record that was refused, the outcome of outcome.rs, 3 where no frame was decoded, and
+//! the checksums of the samples and of the state: a polynomial in 1000003 modulo the prime 2^43 - 57, so that each number and
+//! its place count.
 
 use std::io::{self, BufRead, Write};
 
 use crate::numbers::Numbers;
 use crate::places::{AT_RUN, FRAME};
 use crate::qdec::QSynthesis;
+use crate::qdec::driver::outcome::NO_OUTCOME;
 use crate::qdec::driver::state;
 use crate::record;
+
+/// What a line is answered with, but for the state: the samples are what they then hold.
+struct Answer {
+    number: u8,
+    outcome: u8,
+    samples: Vec<i16>,
+}
 
 /// Answers each line of the input; `?` for what is none.
 pub fn run(input: impl BufRead, mut output: impl Write) -> io::Result<()> {
     let mut current = state::fresh(true);
     for line in input.lines() {
         match answer(&mut current, &line?) {
-            Some((number, samples)) => {
+            Some(answer) => {
+                let (number, outcome) = (answer.number, answer.outcome);
+                let samples = checksum(answer.samples.into_iter().map(i128::from));
                 let state = checksum(state::to_numbers(&current));
-                writeln!(output, "{number} {} {state}", checksum(samples))?;
+                writeln!(output, "{number} {outcome} {samples} {state}")?;
             }
             None => writeln!(output, "?")?,
         }
@@ -33,8 +44,8 @@ pub fn run(input: impl BufRead, mut output: impl Write) -> io::Result<()> {
     output.flush()
 }
 
-/// The number and what the samples then hold.
-fn answer(current: &mut QSynthesis, line: &str) -> Option<(u8, Vec<i128>)> {
+/// The answer to a line; none for what is no line.
+fn answer(current: &mut QSynthesis, line: &str) -> Option<Answer> {
     let field = |at: usize| u16::from_str_radix(line.get(at..at + 4)?, 16).ok();
     let (first, second, count) = (field(1)?, field(5)?, field(9)?);
     let bytes = bytes(line.get(13..)?)?;
@@ -47,20 +58,32 @@ fn answer(current: &mut QSynthesis, line: &str) -> Option<(u8, Vec<i128>)> {
         "D" => return Some(decode(current, first, second as i16, &bytes)),
         _ => return None,
     }
-    Some((0, Vec::new()))
+    Some(without_frame(0, Vec::new()))
+}
+
+/// The answer where no frame was decoded.
+fn without_frame(number: u8, samples: Vec<i16>) -> Answer {
+    Answer {
+        number,
+        outcome: NO_OUTCOME,
+        samples,
+    }
 }
 
 /// Number 1 here, the others by `record`.
-fn decode(current: &mut QSynthesis, length: u16, mark: i16, bytes: &[u8]) -> (u8, Vec<i128>) {
+fn decode(current: &mut QSynthesis, length: u16, mark: i16, bytes: &[u8]) -> Answer {
     let decoded = match usize::from(length) {
-        FRAME => record::decode(current, bytes),
+        FRAME => record::decode_with_outcome(current, bytes),
         _ => Err(1),
     };
-    let (number, samples) = match decoded {
-        Ok(samples) => (0, samples.to_vec()),
-        Err(number) => (number, vec![mark; usize::from(length)]),
-    };
-    (number, samples.into_iter().map(i128::from).collect())
+    match decoded {
+        Ok((outcome, samples)) => Answer {
+            number: 0,
+            outcome: outcome as u8,
+            samples: samples.to_vec(),
+        },
+        Err(number) => without_frame(number, vec![mark; usize::from(length)]),
+    }
 }
 
 /// The bytes of pairs of digits.

@@ -4,6 +4,7 @@
 use crate::linepack::PackedRate;
 use crate::places::*;
 use crate::qdec::driver::frame::{Fixed, Frame};
+use crate::qdec::driver::outcome::{Outcome, erased_outcome, received_outcome};
 use crate::qdec::driver::state::{in_bounds, prev_lsp};
 use crate::qdec::{QSynthesis, lsp_decode};
 
@@ -16,10 +17,35 @@ pub enum Record {
 
 /// One record's samples, or the number of the first refusal that applies; then the state stays.
 pub fn decode(state: &mut QSynthesis, bytes: &[u8]) -> Result<[i16; FRAME], u8> {
+    let record = accepted(state, bytes)?;
+    Ok(samples(state, &record))
+}
+
+/// The same with the outcome before the samples. It is not in `decode`, which is timed, because the
+/// LSPs are stabilised once more for it.
+pub fn decode_with_outcome(
+    state: &mut QSynthesis,
+    bytes: &[u8],
+) -> Result<(Outcome, [i16; FRAME]), u8> {
+    let record = accepted(state, bytes)?;
+    let outcome = match &record {
+        Record::Erased => erased_outcome(state),
+        Record::Received(frame) => received_outcome(frame),
+    };
+    Ok((outcome, samples(state, &record)))
+}
+
+/// Numbers 2 to 10, then the record.
+fn accepted(state: &QSynthesis, bytes: &[u8]) -> Result<Record, u8> {
     refuse(2, !in_bounds(state))?;
-    match read(bytes, prev_lsp(state))? {
-        Record::Erased => Ok(state.decode_erased()),
-        Record::Received(frame) => Ok(state.decode_frame(&frame)),
+    read(bytes, prev_lsp(state))
+}
+
+/// The samples of a record without fault, and the state after it.
+fn samples(state: &mut QSynthesis, record: &Record) -> [i16; FRAME] {
+    match record {
+        Record::Erased => state.decode_erased(),
+        Record::Received(frame) => state.decode_frame(frame),
     }
 }
 

@@ -2,6 +2,8 @@
 
 #[path = "../../../oracle/src/driver/frame.rs"]
 pub mod frame;
+#[path = "../../../oracle/src/driver/outcome.rs"]
+pub mod outcome;
 #[allow(dead_code)]
 #[path = "../../../oracle/src/driver/state.rs"]
 pub mod state;

@@ -1,7 +1,7 @@
 //! Questions to single functions: a name and numbers in a line, numbers in the answer.
 //!
 //! The operators take their parameters in the Rust's order. The others, with the count of a list in
-//! brackets and STATE for the numbers of state.rs:
+//! brackets, STATE for the numbers of state.rs and the outcome as outcome.rs numbers it:
 //!
 //! ```text
 //! wide_product a b                        hi lo
@@ -9,8 +9,8 @@
 //! wide_shift hi lo n                      hi lo, shifted left modulo 2^128
 //! wide_less hi lo hi lo                   0 or 1
 //! wide_divide hi lo hi lo                 hi lo, floored; 0 0 for a division by 0
-//! lsp_stability min p(10)                 passed p(10)
-//! lsp_check_or_previous min cand(10) prev(10)      p(10)
+//! lsp_stability min p(10)                 outcome p(10), as the passes leave them
+//! lsp_check_or_previous min cand(10) prev(10)      outcome p(10)
 //! lsp_extrapolate prev(10)                p(10)
 //! lsp_decode b0 b1 b2 prev(10)            p(10); the bytes of the index as in a record
 //! lsp_interpolate k prev(10) cur(10)      p(10)
@@ -34,6 +34,7 @@ use std::panic::{AssertUnwindSafe, catch_unwind};
 
 use super::super::*;
 use super::frame::{Fixed, Frame, doubled_gain};
+use super::outcome::outcome;
 use super::state;
 use crate::numbers::{Numbers, text};
 use crate::places::{self, INDEX_BYTES, POSTFILTER_NUMBERS, STATE_NUMBERS, TAIL};
@@ -149,18 +150,19 @@ fn wide_divide(q: &mut Numbers) -> Option<String> {
     pair(numerator.checked_div(denominator).unwrap_or(0))
 }
 
-/// Whether the LSPs passed, then the LSPs.
+/// The outcome, then the LSPs as the passes leave them.
 fn stability(q: &mut Numbers) -> Option<String> {
-    let min = q.one()?;
-    let mut lsps = q.array()?;
-    let passed = lsp_stability(&mut lsps, min);
-    list([i16::from(passed)].into_iter().chain(lsps))
+    let (min, cand) = (q.one()?, q.array()?);
+    let mut lsps = cand;
+    lsp_stability(&mut lsps, min);
+    list([outcome(&cand, min) as i16].into_iter().chain(lsps))
 }
 
-/// The candidate as stabilised, or the previous LSPs.
+/// The outcome, then the candidate as stabilised, or the previous LSPs.
 fn check_or_previous(q: &mut Numbers) -> Option<String> {
-    let min = q.one()?;
-    list(lsp_check_or_previous(q.array()?, &q.array()?, min))
+    let (min, cand, prev) = (q.one()?, q.array()?, q.array()?);
+    let lsps = lsp_check_or_previous(cand, &prev, min);
+    list([outcome(&cand, min) as i16].into_iter().chain(lsps))
 }
 
 /// The candidate LSPs of an index.

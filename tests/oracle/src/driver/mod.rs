@@ -4,5 +4,6 @@
 
 pub mod frame;
 pub mod layers;
+pub mod outcome;
 pub mod selfcheck;
 pub mod state;

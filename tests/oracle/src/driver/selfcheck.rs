@@ -3,6 +3,7 @@
 
 use super::super::*;
 use super::frame::{Fixed, Frame, lags};
+use super::outcome::{erased_outcome, received_outcome};
 use super::state;
 use crate::numbers::Numbers;
 use crate::places::{
@@ -13,7 +14,7 @@ use crate::{record, written};
 
 const SEED: u64 = 7231;
 
-/// What was compared. Pairs count frames with the postfilter off and on.
+/// What was compared. Pairs count frames with the postfilter off and on, threes by outcome.
 #[derive(Default)]
 struct Counts {
     runs: u64,
@@ -26,7 +27,8 @@ struct Counts {
     trains: u64,
     codes_without_slots: u64,
     low_past_16_bits: u64,
-    previous_lsps: u64,
+    received_lsps: [u64; 3],
+    erased_lsps: [u64; 3],
     voiced: u64,
     muted: u64,
 }
@@ -265,6 +267,7 @@ impl Counts {
     /// Counts an erased frame, from the state before it.
     fn erased(&mut self, state: &QSynthesis) {
         self.erased[usize::from(state.postfilter)] += 1;
+        self.erased_lsps[erased_outcome(state) as usize] += 1;
         self.voiced += u64::from(state.classify_erasure_voicing().0);
         self.muted += u64::from(state.erased_run >= crate::tables::ERASURE_MUTE_AFTER_FRAMES);
     }
@@ -277,8 +280,7 @@ impl Counts {
         };
         kind[usize::from(postfilter)] += 1;
         *by_index += u64::from(record.is_some());
-        let mut candidate = frame.candidate;
-        self.previous_lsps += u64::from(!lsp_stability(&mut candidate, LSP_DELTA_MIN_Q15));
+        self.received_lsps[received_outcome(frame) as usize] += 1;
         for (s, fixed) in frame.fixed.iter().enumerate() {
             match fixed {
                 Fixed::Pulses { pos, train, .. } => {
@@ -297,10 +299,13 @@ impl Counts {
             let [off, on] = pair;
             format!("{} ({on} with postfilter, {off} without)", on + off)
         };
+        let lsps = |[untouched, moved, previous]: [u64; 3]| {
+            format!("untouched {untouched}, moved {moved}, previous {previous}")
+        };
         format!(
             "{}: High {}, Low {}, erased {}; as records High by index {}, Low by index {}; runs {}, \
-             {} from given states; trains {}, codes without slots {}, Low vectors past 16 bits {}, \
-             previous LSPs {}, erased voiced {}, muted {}",
+             {} from given states; trains {}, codes without slots {}, Low vectors past 16 bits {}; \
+             received LSPs {}, erased LSPs {}; erased voiced {}, muted {}",
             received(self) + self.erased.iter().sum::<u64>(),
             kind(self.high),
             kind(self.low),
@@ -312,7 +317,8 @@ impl Counts {
             self.trains,
             self.codes_without_slots,
             self.low_past_16_bits,
-            self.previous_lsps,
+            lsps(self.received_lsps),
+            lsps(self.erased_lsps),
             self.voiced,
             self.muted
         )

@@ -1,7 +1,8 @@
-//! Tests of the record, its refusals, program `frames` and the single layers.
+//! Tests of the record, its refusals, program `frames`, the single layers and the outcomes.
 
 mod layers;
 mod lines;
+mod outcomes;
 mod records;
 
 use crate::frames;
@@ -93,5 +94,12 @@ fn printed_from(start: QSynthesis, input: impl AsRef<[u8]>, show_state: bool) ->
 fn state_with(place: usize, value: i128) -> QSynthesis {
     let mut list = state::to_numbers(&state::fresh(true));
     list[place] = value;
+    state::from_numbers(&mut Numbers::from(list)).unwrap()
+}
+
+/// A fresh state with these previous LSPs.
+fn state_with_lsps(lsps: &[i16; LSPS]) -> QSynthesis {
+    let mut list = state::to_numbers(&state::fresh(true));
+    list[AT_LSPS..][..LSPS].copy_from_slice(&lsps.map(i128::from));
     state::from_numbers(&mut Numbers::from(list)).unwrap()
 }

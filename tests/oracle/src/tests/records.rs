@@ -333,10 +333,7 @@ fn index_0_from_a_fresh_state_yields_the_mean_lsps() {
 fn a_record_by_index_is_answered_as_one_with_its_candidates() {
     let mut random = Random(2);
     for lsps in [MEAN, [i16::MIN; LSPS], [0; LSPS], [i16::MAX; LSPS]] {
-        let mut list = state::to_numbers(&state::fresh(true));
-        list[AT_LSPS..][..LSPS].copy_from_slice(&lsps.map(i128::from));
-        let [mut by_index, mut by_values] =
-            [(); 2].map(|()| state::from_numbers(&mut Numbers::from(list.clone())).unwrap());
+        let [mut by_index, mut by_values] = [(); 2].map(|()| state_with_lsps(&lsps));
         for i in 0..200 {
             let [values, index] = [HIGHS, LOWS][i % 2];
             let frame = random_frame(&mut random, values);
