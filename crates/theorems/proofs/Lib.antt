@@ -9,6 +9,7 @@ pub mod Index
 pub mod Lags
 pub mod LastLag
 pub mod Memories
+pub mod Outcomes
 pub mod Refused
 pub mod Values
 pub mod Words

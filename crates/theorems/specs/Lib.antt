@@ -4,5 +4,6 @@ pub mod Refused
 pub mod Choice
 pub mod Descriptions
 pub mod Index
+pub mod Outcomes
 pub mod LastLag
 pub mod Values
