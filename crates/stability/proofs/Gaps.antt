@@ -116,12 +116,12 @@ said-previous false b e = differ (λ h. omega arith) e
 spaced-any : (m : ℤ) (p : List ℤ) → Spaced m p → anyShort m p ≡ false
 spaced-any m p s = each-false-any (short m p) 9 (λ j h. wide-gap m (gap p j) (s .at j h))
 
+true-unless : (b : Bool) → (b ≡ false → ⊥) → b ≡ true
+true-unless true h = refl
+true-unless false h = absurd (h refl)
+
 short-any : (m : ℤ) (p : List ℤ) → Short m p → anyShort m p ≡ true
-short-any m p s = decided (anyShort m p) refl
-  where
-    decided : (b : Bool) → anyShort m p ≡ b → b ≡ true
-    decided true e = refl
-    decided false e = clash (s .is-short) (any-false-each (short m p) 9 e (s .place) (s .inside))
+short-any m p s = true-unless (anyShort m p) (λ e. clash (s .is-short) (any-false-each (short m p) 9 e (s .place) (s .inside)))
 
 module _ (m : ℤ) (p v : List ℤ) where
   abbrev last : List ℤ
@@ -139,14 +139,6 @@ module _ (m : ℤ) (p v : List ℤ) where
   -- and no gap is short then
   unmoved-last : passMoves m p ≡ false → anyShort m last ≡ false
   unmoved-last e = ap (anyShort m) (unmoved-passes (stabilityPasses - 1) e) ∙ unmoved-spaced m p e
-
-  -- the first pass moves some, where what follows from a still one does not hold
-  moves-unless : (passMoves m p ≡ false → ⊥) → passMoves m p ≡ true
-  moves-unless h = decided (passMoves m p) refl
-    where
-      decided : (b : Bool) → passMoves m p ≡ b → b ≡ true
-      decided true e = refl
-      decided false e = absurd (h e)
 
   untouched-then : outcomeOf m p ≡ Untouched → Spaced m p × (lspsUsed (outcomeOf m p) last v ≡ p)
   untouched-then e =
@@ -169,12 +161,14 @@ module _ (m : ℤ) (p v : List ℤ) where
       (record { place = k .place; inside = k .inside; is-short = k .holds }, used e)
 
   previous-if : Short m last → outcomeOf m p ≡ Previous
-  previous-if s = let short = short-any m last s in outcome-is m p (moves-unless (λ e. clash short (unmoved-last e))) short
+  previous-if s =
+      let short = short-any m last s in
+      outcome-is m p (true-unless (passMoves m p) (λ e. clash short (unmoved-last e))) short
 
   all-moved : passMoves m (passes m (stabilityPasses - 1) p) ≡ true → Spaced m last → outcomeOf m p ≡ Moved
   all-moved h s =
-      let moves = moves-unless (λ e. clash h (ap (passMoves m) (unmoved-passes (stabilityPasses - 2) e) ∙ e)) in
-      outcome-is m p moves (spaced-any m last s)
+      let still : passMoves m p ≡ false → ⊥ = λ e. clash h (ap (passMoves m) (unmoved-passes (stabilityPasses - 2) e) ∙ e) in
+      outcome-is m p (true-unless (passMoves m p) still) (spaced-any m last s)
 
 pub untouched-spaced : UntouchedSpaced
 untouched-spaced m p v = (untouched-then m p v, untouched-if m p v)
