@@ -1,4 +1,6 @@
 // The adaptive part of the excitation, under the Rust's name (qdec.rs).
+#![tactic(auto)]
+
 ghost use Rattle.std.specs.Prelude.{◌≡◌, ◌*◌, ◌^◌, ◌≤◌, pos, ◌+ℤ◌};
 ghost use Rattle.integers.specs.Base.{tabulate, floor_div, Within};
 ghost use Rattle.excitation.specs.Excitation.{subframe_place};

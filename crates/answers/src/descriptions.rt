@@ -31,7 +31,7 @@ fn positions(buf: &mut [u8], c: Cursor) -> Cursor {
 }
 
 // The numbers of a description, in the order of its question, and the place after them.
-#[derive(Drop)]
+#[derive(Clone, Copy)]
 struct Seven {
     sizes: [u64; 7],
     cursor: Cursor,

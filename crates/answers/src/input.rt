@@ -1,28 +1,28 @@
 // Words of standard input.
 
 // A place in the buffer, of which `len` bytes are filled.
-#[derive(Drop)]
+#[derive(Clone, Copy)]
 pub(crate) struct Cursor {
     pub(crate) at: usize,
     pub(crate) len: usize,
     pub(crate) ended: bool,
 }
 
-#[derive(Drop)]
+#[derive(Clone, Copy)]
 struct Byte {
     value: u8,
     cursor: Cursor,
 }
 
 // A word: a number that all its bytes go into, and what it is as a decimal number. names.rt has those of the questions.
-#[derive(Drop)]
+#[derive(Clone, Copy)]
 pub(crate) struct Word {
     pub(crate) name: u64,
     pub(crate) negative: bool,
     pub(crate) size: u64,
 }
 
-#[derive(Drop)]
+#[derive(Clone, Copy)]
 pub(crate) struct Read {
     pub(crate) word: Word,
     pub(crate) cursor: Cursor,

@@ -1,6 +1,8 @@
 // Answers questions as `oracle layers` of tests/oracle does: a line has a name and decimal numbers, its answer is a
 // line of decimal numbers. The file `stdin` has the questions and `stdout` the oracle's answers (tests/make-answers). A
 // question has one space between its words and numbers that fit; what else a line may hold is not looked for.
+#![tactic(auto)]
+
 mod descriptions;
 mod erasures;
 mod input;

@@ -1,4 +1,6 @@
 // The basic operators of ITU-T G.191 on 16 bits that the decoder calls, under the Rust's names (basicop.rs).
+#![tactic(auto)]
+
 ghost use Rattle.std.specs.Prelude.{◌≡◌, ◌^◌, pos, nat_abs, ◌*ℤ◌};
 ghost use Rattle.integers.specs.Base.{floor_div};
 ghost use Rattle.basicop.specs.Operators.{word16, add16, sub16, mult16, shl16, shr16};

@@ -1,4 +1,6 @@
 // The basic operators of ITU-T G.191 on 32 bits that the decoder calls, under the Rust's names (basicop.rs; sat32 is of qdec.rs).
+#![tactic(auto)]
+
 ghost use Rattle.std.specs.Prelude.{◌≡◌};
 ghost use Rattle.basicop32.specs.Operators32.{word32, add32, mult32, mac32, high16, rounded16};
 

@@ -7,6 +7,8 @@
 //
 // The answer is a number, 0 but for a record that was refused, the code of what was done to the candidate LSPs (3 where there
 // is no frame), and the checksums of the samples and of the state.
+#![tactic(auto)]
+
 mod image;
 mod sums;
 mod text;
@@ -16,7 +18,7 @@ use text::Line;
 use verdict::Verdict;
 
 // The number, the code of the outcome and the samples' checksum, and the state after the line.
-#[derive(Drop)]
+#[derive(Clone, Copy)]
 struct Turn {
     number: u8,
     outcome: u8,

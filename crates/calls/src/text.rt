@@ -1,7 +1,7 @@
 // Lines of standard input.
 
 // A line's letter, its first two fields, and its bytes. The letter is 0 at the end of the input.
-#[derive(Drop)]
+#[derive(Clone, Copy)]
 pub(crate) struct Line {
     pub(crate) letter: u8,
     pub(crate) first: u16,

@@ -1,5 +1,7 @@
 // The codebooks of the LSP index, as the Rust's spec_tables.rs has them: 256 rows for each of three bands, of three, three and four
 // values (§2.6). They are read in one place, since the compiled code makes a constant table anew wherever it is read.
+#![tactic(auto)]
+
 ghost use Rattle.std.specs.Prelude.{◌≡◌};
 ghost use Rattle.codebooks.specs.Codebooks.{rows};
 

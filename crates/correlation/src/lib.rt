@@ -1,4 +1,6 @@
 // Sums of products of two signals of 16 bits, over at most 255 samples.
+#![tactic(auto)]
+
 ghost use Rattle.std.specs.Prelude.{◌≡◌, ◌-◌, ◌*◌, ◌^◌, ◌≤◌, min, pos, ◌+ℤ◌, ◌-ℤ◌, ◌*ℤ◌, length};
 ghost use Rattle.integers.specs.Base.{floor_div, Within};
 ghost use Rattle.correlation.specs.Correlation.{correlation, energy};

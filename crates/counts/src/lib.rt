@@ -1,4 +1,6 @@
 // How often each number was given, and the closing lines of these counts.
+#![tactic(auto)]
+
 ghost use Rattle.std.specs.Prelude.{◌≡◌, List, [], ◌∷◌, ◌++◌, cond, ltb, ℕ, ◌≤◌, ◌<◌, ◌+◌, length, get_or, replicate};
 ghost use Rattle.tables.specs.Constants.{numbers_counted};
 ghost use Rattle.counts.specs.Counts.{tally, counted, count_line, Closes, closing, closing_text};
@@ -7,7 +9,7 @@ ghost use Rattle.counts.specs.Counts.{tally, counted, count_line, Closes, closin
 const NUMBERS: u8 = tables::NUMBERS as u8;
 
 // Text of at most eleven lines of 25 characters, and its length.
-#[derive(Drop)]
+#[derive(Clone, Copy)]
 pub struct Closing {
     pub bytes: [u8; 275],
     pub len: usize,

@@ -1,4 +1,6 @@
 // The decoder: a record and a state to 240 samples and the next state, or a refusal (the Rust's QSynthesis, qdec.rs).
+#![tactic(auto)]
+
 ghost use Rattle.std.specs.Prelude.{◌≡◌, true, cond, length};
 ghost use Rattle.integers.specs.Base.{entry};
 ghost use Rattle.layout.specs.Layout.{ordinal};
@@ -18,7 +20,7 @@ use state::State;
 use verdict::Verdict;
 
 // What is stored of a frame for erased ones (record_last_frame).
-#[derive(Drop)]
+#[derive(Clone, Copy)]
 pub struct LastFrame {
     pub last_lag: i32,
     pub last_lag2: i32,
@@ -27,7 +29,7 @@ pub struct LastFrame {
     pub erased_run: u32,
 }
 
-#[derive(Drop)]
+#[derive(Clone, Copy)]
 pub struct Answer {
     pub verdict: Verdict,
     pub state: State,

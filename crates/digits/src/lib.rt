@@ -1,4 +1,6 @@
 // Hexadecimal text: digit pairs to bytes, and samples to digits.
+#![tactic(auto)]
+
 ghost use Rattle.std.specs.Prelude.{◌≡◌, ◌&&◌, ◌+◌, ◌*◌, ◌%◌, ltb};
 ghost use Rattle.integers.specs.Base.{tabulate};
 ghost use Rattle.digits.specs.Digits.{digit_code, pairs_of, image, glyph as glyphOf, sample_line};
@@ -7,7 +9,7 @@ ghost use Rattle.digits.specs.Digits.{digit_code, pairs_of, image, glyph as glyp
 pub const SAMPLE_LINE_BYTES: usize = 4 * tables::FRAME_SIZE_SAMPLES + 1;
 
 // A text read as digit pairs: whether it is that, and its bytes, `count` of them.
-#[derive(Drop)]
+#[derive(Clone, Copy)]
 pub struct Pairs {
     pub are_pairs: bool,
     pub bytes: [u8; 549],

@@ -1,4 +1,6 @@
 // The excitation of an erased frame, after the Rust's decode_erased (qdec.rs).
+#![tactic(auto)]
+
 ghost use Rattle.std.specs.Prelude.{◌≡◌, pos};
 ghost use Rattle.excitation.specs.Excitation.{subframe_place, in_turn};
 ghost use Rattle.adaptive.specs.Adaptive.{limited_lag};

@@ -1,10 +1,12 @@
 // Excitation: the sum of the adaptive part and the fixed vector, and the signal that holds the history and the frame, under
 // the Rust's names (qdec.rs). The Rust's excitation is i32, but always within 16 bits.
+#![tactic(auto)]
+
 ghost use Rattle.std.specs.Prelude.{◌≡◌, pos, ◌+ℤ◌};
 ghost use Rattle.basicop.specs.Operators.{word16};
 ghost use Rattle.excitation.specs.Excitation.{subframe_place, with_subframe, limited_sum, tap_sum_of, unvoiced_gain};
 
-#[derive(Drop)]
+#[derive(Clone, Copy)]
 pub enum Subframe {
     Zero,
     One,
@@ -13,7 +15,7 @@ pub enum Subframe {
 }
 
 // 6.3 or 5.3 kbit/s.
-#[derive(Drop)]
+#[derive(Clone, Copy)]
 pub enum Rate {
     High,
     Low,

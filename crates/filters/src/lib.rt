@@ -1,4 +1,6 @@
 // What the filters share: the limit of a sample, and the memory that a subframe leaves.
+#![tactic(auto)]
+
 ghost use Rattle.std.specs.Prelude.{◌≡◌};
 ghost use Rattle.basicop.specs.Operators.{word16};
 ghost use Rattle.filters.specs.Filters.{last_ten};

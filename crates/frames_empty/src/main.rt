@@ -1,4 +1,6 @@
 // Run on no input at all.
+#![tactic(auto)]
+
 fn main() {
     program::frames();
 }

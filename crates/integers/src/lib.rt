@@ -1,1 +1,2 @@
 // Laws that the crates above cite; see specs/.
+#![tactic(auto)]

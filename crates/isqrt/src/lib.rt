@@ -1,4 +1,6 @@
 // The floor of the square root, under the Rust's name (basicop.rs).
+#![tactic(auto)]
+
 ghost use Rattle.std.specs.Prelude.{◌≡◌};
 ghost use Rattle.isqrt.specs.Root.{root};
 

@@ -1,5 +1,7 @@
 // The search for a pitch lag: among seven around one, forward and backward (the first half of the Rust's pitch_postfilter,
 // qdec.rs).
+#![tactic(auto)]
+
 ghost use Rattle.std.specs.Prelude.{◌≡◌, ◌+◌, ◌*◌, ◌/◌, ◌^◌, ◌≤◌, ◌<◌, pos, ◌*ℤ◌};
 ghost use Rattle.integers.specs.Base.{entry};
 ghost use Rattle.wide.specs.Value.{value};
@@ -18,21 +20,21 @@ const SUBFRAME: u8 = tables::SUBFRAME_SIZE as u8;
 const LAST: usize = tables::SUBFRAME_SIZE - 1;
 
 // After the subframe, or before it.
-#[derive(Drop)]
+#[derive(Clone, Copy)]
 pub enum Direction {
     Forward,
     Backward,
 }
 
 // No lag, or a lag with its correlation and its energy, both above 0.
-#[derive(Drop)]
+#[derive(Clone, Copy)]
 pub enum Best {
     None,
     Lag { lag: usize, c: u64, d: u64 },
 }
 
 // The direction that was chosen, with its best lag.
-#[derive(Drop)]
+#[derive(Clone, Copy)]
 pub struct Choice {
     pub to: Direction,
     pub best: Best,

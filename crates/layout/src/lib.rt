@@ -1,11 +1,13 @@
 // Where the fields of a record stand: those after its head are a part of it, with places of their own.
+#![tactic(auto)]
+
 ghost use Rattle.std.specs.Prelude.{◌≡◌};
 ghost use Rattle.layout.specs.Layout.{head_bytes, fields_of, lag_place, block_place};
 
 use excitation::{Rate, Subframe};
 
 // How a record gives its candidate LSPs: as ten values, or by an index of three bytes.
-#[derive(Drop)]
+#[derive(Clone, Copy)]
 pub enum LspForm {
     Values,
     Index,

@@ -1,4 +1,6 @@
 // Lines of hexadecimal text to lines of samples, piece by piece: the program `frames` but for its calls to read and write.
+#![tactic(auto)]
+
 ghost use Rattle.std.specs.Prelude.{◌≡◌, true, false, ◌||◌, ltb, [], take};
 ghost use Rattle.digits.specs.Digits.{sample_line};
 ghost use Rattle.lines.specs.Replies.{refusal_line};
@@ -8,7 +10,7 @@ ghost use Rattle.lines.specs.Parts.{answer_line, reply_of, line_reply, text_repl
 use state::State;
 
 // A line that has not ended: `len` characters stand in `text`, and `over` is set where there were more.
-#[derive(Drop)]
+#[derive(Clone, Copy)]
 pub struct Line {
     pub text: [u8; 1098],
     pub len: usize,
@@ -16,7 +18,7 @@ pub struct Line {
 }
 
 // What is carried from one piece of the input to the next. `tallies` counts lines by number, those with samples at 0.
-#[derive(Drop)]
+#[derive(Clone, Copy)]
 pub struct Stream {
     pub state: State,
     pub line: Line,
@@ -24,14 +26,14 @@ pub struct Stream {
 }
 
 // The answer to a line, with its newline: `len` bytes.
-#[derive(Drop)]
+#[derive(Clone, Copy)]
 pub struct Text {
     pub bytes: [u8; 961],
     pub len: usize,
 }
 
 // What a call took of a piece, and what is to be written.
-#[derive(Drop)]
+#[derive(Clone, Copy)]
 pub struct Progress {
     pub stream: Stream,
     pub text: Text,
@@ -39,7 +41,7 @@ pub struct Progress {
 }
 
 // The answer to one line.
-#[derive(Drop)]
+#[derive(Clone, Copy)]
 struct Reply {
     state: State,
     number: u8,

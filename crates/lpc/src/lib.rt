@@ -1,4 +1,6 @@
 // Coefficients: from LSPs to four sets of ten, under the Rust's names (qdec.rs).
+#![tactic(auto)]
+
 ghost use Rattle.std.specs.Prelude.{◌≡◌, ◌<◌, ◌^◌};
 ghost use Rattle.integers.specs.Base.{entry, tabulate, up, Within, AllWithin};
 ghost use Rattle.tables.specs.Tables.{cosines};

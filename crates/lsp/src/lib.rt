@@ -1,4 +1,6 @@
 // LSPs: interpolated, and the candidates of an index and of erased frames, under the Rust's names (qdec.rs).
+#![tactic(auto)]
+
 ghost use Rattle.std.specs.Prelude.{◌≡◌};
 ghost use Rattle.integers.specs.Base.{entry, tabulate};
 ghost use Rattle.basicop32.specs.Operators32.{mult32, mac32, rounded16};

@@ -1,9 +1,11 @@
 // What the run of erased frames decides: attenuation and noise, after the Rust's decode_erased (qdec.rs).
+#![tactic(auto)]
+
 ghost use Rattle.std.specs.Prelude.{◌≡◌, ◌*◌, ◌%◌, ◌^◌, pos};
 ghost use Rattle.noise.specs.Noise.{next_run, attenuation, attenuated, start_word, next_word_of, word_after, noise, noise_subframe};
 
 // A subframe of noise, and the word after it.
-#[derive(Drop)]
+#[derive(Clone, Copy)]
 pub struct Noise {
     pub out: [i16; 60],
     pub word: u32,

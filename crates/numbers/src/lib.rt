@@ -1,9 +1,11 @@
 // The ten numbers by their meaning.
+#![tactic(auto)]
+
 ghost use Rattle.std.specs.Prelude.{◌≡◌};
 ghost use Rattle.numbers.specs.Numbers.{number};
 
 // The ten refusals, in the order of their numbers. The first two are not of a record.
-#[derive(Drop)]
+#[derive(Clone, Copy)]
 pub enum Refusal {
     SampleLength,
     StateBounds,

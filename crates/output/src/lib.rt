@@ -1,4 +1,6 @@
 // The samples of a frame, into those that are lent (the Rust's decode_params and decode_erased, qdec.rs).
+#![tactic(auto)]
+
 ghost use Rattle.std.specs.Prelude.{◌≡◌, length};
 ghost use Rattle.postfilter.specs.Postfilter.{filtered, postfilter_after};
 ghost use Rattle.output.specs.Output.{subframe_output, filters_after, frame_output, frame_filters, output_in, filters_in};
@@ -6,7 +8,7 @@ ghost use Rattle.output.specs.Output.{subframe_output, filters_after, frame_outp
 use postfilter::{Filtered, Postfilter};
 
 // The memories that the subframes hand on.
-#[derive(Drop)]
+#[derive(Clone, Copy)]
 pub struct Filters {
     pub syn_mem: [i16; 10],
     pub pf: Postfilter,

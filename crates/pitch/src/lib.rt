@@ -1,4 +1,6 @@
 // The pitch postfilter of one subframe, under the Rust's name (qdec.rs).
+#![tactic(auto)]
+
 ghost use Rattle.std.specs.Prelude.{◌≡◌, ◌+◌, ◌*◌, ◌^◌, ◌≤◌, ltb, pos, nat_abs, ◌*ℤ◌};
 ghost use Rattle.integers.specs.Base.{entry, tabulate, Within, AllWithin};
 ghost use Rattle.tables.specs.Constants.{pitch_gate};

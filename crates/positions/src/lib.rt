@@ -1,25 +1,27 @@
 // Position codes, under the Rust's names (spec_tables.rs).
+#![tactic(auto)]
+
 ghost use Rattle.std.specs.Prelude.{◌≡◌, ◌+◌, ◌-◌, ◌^◌, ◌≤◌, ◌<◌};
 ghost use Rattle.tables.specs.Tables.{weights};
 ghost use Rattle.tables.specs.Rules.{choose};
 ghost use Rattle.positions.specs.Positions.{pulses, limit, walk, bits, positions};
 
 // The pulses of a subframe: six in even ones, five in odd ones.
-#[derive(Drop)]
+#[derive(Clone, Copy)]
 pub enum Count {
     Five,
     Six,
 }
 
 // The slots of a position code, a bit of one number for each, or none.
-#[derive(Drop)]
+#[derive(Clone, Copy)]
 pub enum Slots {
     Of(u32),
     None,
 }
 
 // The walk before a slot: the bits of the slots that got a pulse, the pulses still wanted, and the rest of the code.
-#[derive(Drop)]
+#[derive(Clone, Copy)]
 struct Walked {
     found: u32,
     wanted: usize,

@@ -1,4 +1,6 @@
 // Formant, tilt and gain of one subframe, with their memory, under the Rust's names (qdec.rs).
+#![tactic(auto)]
+
 ghost use Rattle.std.specs.Prelude.{◌≡◌, ◌*◌, ◌^◌, ◌≤◌, pos};
 ghost use Rattle.integers.specs.Base.{Within};
 ghost use Rattle.postfilter.specs.Postfilter.{tilt_of, smoothed, compensated_sample, compensated, gain_target, towards, gain_after, gained_sample, gained, filtered, postfilter_after};
@@ -11,7 +13,7 @@ const SUBFRAME_PAIRS: u8 = SUBFRAME - 1;
 const LAST: usize = tables::SUBFRAME_SIZE - 1;
 
 // The Rust's PostfilterState.
-#[derive(Drop)]
+#[derive(Clone, Copy)]
 pub struct Postfilter {
     pub num_mem: [i16; 10],
     pub den_mem: [i16; 10],
@@ -21,14 +23,14 @@ pub struct Postfilter {
 }
 
 // A subframe, and the memory after it.
-#[derive(Drop)]
+#[derive(Clone, Copy)]
 pub struct Filtered {
     pub out: [i16; 60],
     pub pf: Postfilter,
 }
 
 // The samples with their gain, and the gain after them.
-#[derive(Drop)]
+#[derive(Clone, Copy)]
 struct Gained {
     out: [i16; 60],
     gain: i32,

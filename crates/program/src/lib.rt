@@ -1,6 +1,8 @@
 // The program `frames` but for its main: standard input to its end, piece by piece as reads give it, and what each call of
 // crate lines leaves to be written. A read that fails counts as the end of the input. After a write that fails nothing more is
 // read or written, and the program ends as it would otherwise.
+#![tactic(auto)]
+
 ghost use Rattle.std.specs.Prelude.{◌≡◌, true, List, ℕ};
 ghost use Rattle.lines.specs.Stream.{stream_after, finished, printed_tallies};
 
@@ -8,7 +10,7 @@ use libc::{STDIN_FILENO, STDOUT_FILENO};
 use lines::Stream;
 
 // What is carried on, whether every write was done, and whether there may be more to read.
-#[derive(Drop)]
+#[derive(Clone, Copy)]
 struct Turn {
     stream: Stream,
     is_written: bool,

@@ -1,4 +1,6 @@
 // Pulses: the vector of a pulse description, under the Rust's names (qdec.rs).
+#![tactic(auto)]
+
 ghost use Rattle.std.specs.Prelude.{◌≡◌, cond, ◌+◌, ◌*◌, ◌^◌, ◌<◌, max, pos, ◌+ℤ◌};
 ghost use Rattle.integers.specs.Base.{entry, tabulate, Within, AllWithin};
 ghost use Rattle.tables.specs.Constants.{unvoiced_gain_max};
@@ -8,7 +10,7 @@ ghost use Rattle.pulses.specs.Pulses.{doubled_gain, signed_by, repeats, vector};
 use positions::{Count, Slots};
 
 // A pulse description (document 01, "Pulses").
-#[derive(Drop)]
+#[derive(Clone, Copy)]
 pub struct Description {
     pub count: Count,
     pub train: bool,

@@ -1,4 +1,6 @@
 // The quotient of two numbers below 2^128, by digits of 32 bits.
+#![tactic(auto)]
+
 ghost use Rattle.std.specs.Prelude.{◌≡◌, ◌+◌, ◌*◌, ◌/◌, ◌^◌, ◌<◌, ◌≤◌, nat_lt};
 ghost use Rattle.wide.specs.Value.{value};
 
@@ -13,7 +15,7 @@ fn top_shift(v: u64) -> u32
 }
 
 // A quotient with its remainder.
-#[derive(Drop)]
+#[derive(Clone, Copy)]
 struct Division {
     quotient: u64,
     remainder: u64,

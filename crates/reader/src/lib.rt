@@ -1,6 +1,8 @@
 // The record reader: it refers to the record's bytes and keeps a cursor, which each read leaves past what it read. The work is
 // done by functions on a slice and a place; what the other crates call are `byte_field`, `word_field` and `code_field`, which
 // take a slice and a place too and make the reader.
+#![tactic(auto)]
+
 ghost use Rattle.std.specs.Prelude.{◌≡◌, ◌+◌, ◌*◌};
 ghost use Rattle.reader.specs.Fields.{byte, word, code};
 ghost use Rattle.reader.specs.Cursor.{past, StandsAt, ReadOn, FieldAt};

@@ -1,4 +1,6 @@
 // The fields of a record: candidate LSPs from its bytes, the others from those after its head.
+#![tactic(auto)]
+
 ghost use Rattle.std.specs.Prelude.{◌≡◌, ◌<◌};
 ghost use Rattle.record.specs.Record.{words, candidates, base_lag_of, lag, count, description, fixed, block_of};
 
@@ -7,7 +9,7 @@ use positions::Count;
 use pulses::Description;
 
 // What the decoder reads of a subframe.
-#[derive(Drop)]
+#[derive(Clone, Copy)]
 pub struct Block {
     pub base_lag: i32,
     pub lag: i32,

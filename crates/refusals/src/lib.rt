@@ -1,4 +1,6 @@
 // What a record is found to be: erased, received, or refused with one of the numbers 3 to 10.
+#![tactic(auto)]
+
 ghost use Rattle.std.specs.Prelude.{◌≡◌, ◌||◌, ltb};
 ghost use Rattle.tables.specs.Constants.{gain_index_max};
 ghost use Rattle.reader.specs.Fields.{byte};
@@ -10,7 +12,7 @@ use excitation::{Rate, Subframe};
 use layout::LspForm;
 use numbers::Refusal;
 
-#[derive(Drop)]
+#[derive(Clone, Copy)]
 pub enum Found {
     Erased,
     Received(Rate, LspForm),

@@ -1,4 +1,6 @@
 // LSPs: candidates stabilised, or else the previous ones kept, under the Rust's names (qdec.rs).
+#![tactic(auto)]
+
 ghost use Rattle.std.specs.Prelude.{◌≡◌, cond, ◌||◌, eqb, ◌<◌, ◌+ℤ◌, ◌-ℤ◌};
 ghost use Rattle.std.specs.Int.Signed.{lt_z};
 ghost use Rattle.integers.specs.Base.{floor_div};
@@ -7,7 +9,7 @@ ghost use Rattle.stability.specs.declared.Outcome.TheVariants.{Untouched, Moved}
 
 // What stabilising says of the candidates: no pair was moved; some were, and the gaps are then met; or the previous LSPs are
 // used.
-#[derive(Drop)]
+#[derive(Clone, Copy)]
 pub enum Outcome {
     Untouched,
     Moved,
@@ -15,14 +17,14 @@ pub enum Outcome {
 }
 
 // LSPs, and what was done to get them.
-#[derive(Drop)]
+#[derive(Clone, Copy)]
 pub struct Stabilised {
     pub lsps: [i16; 10],
     pub outcome: Outcome,
 }
 
 // A pass under way: the LSPs, and whether it moved some.
-#[derive(Drop)]
+#[derive(Clone, Copy)]
 struct Pass {
     lsps: [i16; 10],
     moved: bool,

@@ -1,10 +1,12 @@
 // The state of the decoder: the Rust's QSynthesis with its widths (qdec.rs), a fresh one, and the bounds of number 2.
+#![tactic(auto)]
+
 ghost use Rattle.std.specs.Prelude.{◌≡◌, length};
 ghost use Rattle.state.specs.State.{fresh_postfilter, fresh_state, between, are_words, are_in_bounds, bounded_numbers, in_bounds};
 
 use postfilter::Postfilter;
 
-#[derive(Drop)]
+#[derive(Clone, Copy)]
 pub struct State {
     pub prev_lsp: [i16; 10],
     pub exc_hist: [i32; 146],

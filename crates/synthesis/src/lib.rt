@@ -1,5 +1,7 @@
 // The filters of a subframe: synthesis, under the Rust's name (qdec.rs), with its memory clamped, and the poles of the formant
 // postfilter. Memories are sixteen bits by type.
+#![tactic(auto)]
+
 ghost use Rattle.std.specs.Prelude.{◌≡◌, ◌∷◌, ◌*◌, ◌^◌, pos, ◌+ℤ◌, ◌-ℤ◌, ◌*ℤ◌, take};
 ghost use Rattle.std.specs.Int.{w16};
 ghost use Rattle.std.proofs.Common.{SFits};
@@ -7,7 +9,7 @@ ghost use Rattle.integers.specs.Base.{entry, tabulate, Within, AllWithin, AllFit
 ghost use Rattle.synthesis.specs.Synthesis.{prediction, rounded, driven_subframe, driven_memory, excited, synthesised, memory_after, difference};
 
 // A subframe, and the memory after it.
-#[derive(Drop)]
+#[derive(Clone, Copy)]
 pub struct Synthesised {
     pub out: [i16; 60],
     pub mem: [i16; 10],

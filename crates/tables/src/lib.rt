@@ -1,5 +1,7 @@
 // The constants of document 01 and the tables of the decoder, in one place. Each number has its counterpart for definitions in
 // specs/Constants.antt, but for limits that follow from others. Lengths of arrays, and shifts, stand in code as numbers.
+#![tactic(auto)]
+
 mod spec_tables;
 
 pub use spec_tables::{

@@ -1,4 +1,6 @@
 // What the decoder says of a record.
+#![tactic(auto)]
+
 ghost use Rattle.std.specs.Prelude.{◌≡◌};
 ghost use Rattle.verdict.specs.Verdicts.{number_of};
 
@@ -6,7 +8,7 @@ use numbers::Refusal;
 use stability::Outcome;
 
 // Accepted, with what was done to the candidate LSPs of the frame, or refused.
-#[derive(Drop)]
+#[derive(Clone, Copy)]
 pub enum Verdict {
     Accepted(Outcome),
     Refused(Refusal),

@@ -1,4 +1,6 @@
 // Whether an erased frame is voiced, and at which lag, under the Rust's name (qdec.rs).
+#![tactic(auto)]
+
 ghost use Rattle.std.specs.Prelude.{◌≡◌, false, cond, ◌*◌, ◌/◌, ◌^◌, ◌≤◌, ◌<◌, ltb, leb};
 ghost use Rattle.integers.specs.Base.{Within};
 ghost use Rattle.tables.specs.Constants.{voicing_gate, voicing_rank_one};
@@ -12,14 +14,14 @@ const HISTORY: u8 = tables::ERASURE_CLASSIFIER_HISTORY_LEN as u8;
 
 const CANDIDATES: u8 = tables::LAG_CANDIDATES as u8;
 
-#[derive(Drop)]
+#[derive(Clone, Copy)]
 pub enum Voicing {
     Unvoiced,
     Voiced(u8),
 }
 
 // A lag, with what the Rust's search keeps of it: whether it counts, its rank, and whether it passes the gate.
-#[derive(Drop)]
+#[derive(Clone, Copy)]
 struct Leader {
     lag: u8,
     counts: bool,

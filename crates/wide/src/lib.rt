@@ -1,8 +1,10 @@
 // Non-negative numbers below 2^128, as pairs of 64-bit words, where the Rust has i128.
+#![tactic(auto)]
+
 ghost use Rattle.std.specs.Prelude.{◌≡◌, ◌*◌, ◌%◌, ◌^◌, nat_lt};
 ghost use Rattle.wide.specs.Value.{value};
 
-#[derive(Drop)]
+#[derive(Clone, Copy)]
 pub struct Wide {
     pub hi: u64,
     pub lo: u64,

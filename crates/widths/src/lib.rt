@@ -1,5 +1,7 @@
 // Between the widths of the state and those of a frame: the excitation history and the synthesis memory have 32 bits in the
 // state, as in the Rust's QSynthesis (qdec.rs), and 16 in a frame.
+#![tactic(auto)]
+
 ghost use Rattle.std.specs.Prelude.{◌≡◌};
 ghost use Rattle.widths.specs.Widths.{history_after, narrowed};
 
