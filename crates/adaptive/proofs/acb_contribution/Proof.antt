@@ -20,94 +20,91 @@ use Rattle.adaptive.proofs.Delays.{delayed-sum}
 use Rattle.adaptive.proofs.acb_contribution.Statement.{statement}
 use Rattle.adaptive.proofs.acb_contribution.Tie as tie
 
-abbrev invariant-loop : tie.invariant-loop
+abbrev invariant-loop : tie.invariant-loop-n
 invariant-loop signal lag taps p l e u₀ n₀ u n = Fills (adaptive_sample signal p l taps) 60 u n
 
-abbrev decreases-loop : tie.decreases-loop
+abbrev decreases-loop : tie.decreases-loop-n
 decreases-loop signal lag taps p l e u₀ n₀ u n = 60 - n
 
-subframe-place-requires : tie.Need-subframe-place-requires invariant-loop decreases-loop
+subframe-place-requires : tie.Need-subframe_place-p-requires invariant-loop decreases-loop
 subframe-place-requires c κs = tt
 
-limited-lag-requires : tie.Need-limited-lag-requires invariant-loop decreases-loop
+limited-lag-requires : tie.Need-limited_lag-l-requires invariant-loop decreases-loop
 limited-lag-requires c κs = tt
 
-lag-is : (c : tie.After-limited-lag invariant-loop decreases-loop) → c.limited-lag.result ≡ limited_lag c.before.before.args.lag
-lag-is c = c.limited-lag.ensures ∙ ap limited_lag (to_z-of_z {w = w32} c.before.before.ranges.lag)
+lag-is : (c : tie.After-limited_lag-l invariant-loop decreases-loop) → c.limited_lag-l.result ≡ limited_lag c.before.before.args.lag
+lag-is c = c.limited_lag-l.ensures ∙ ap limited_lag (to_z-of_z {w = w32} c.before.before.ranges.lag)
 
-delayed-samples-requires : tie.Need-delayed-samples-requires invariant-loop decreases-loop
-delayed-samples-requires c κs = (
-  rw c.before.subframe-place.ensures (subframe_place_bounds c.before.before.args.s),
-  rw (lag-is c) (limited-lag_bounds c.before.before.args.lag),
-)
+delayed-samples-requires : tie.Need-delayed_samples-e-requires invariant-loop decreases-loop
+delayed-samples-requires c κs = record { le_p = rw c.before.subframe_place-p.ensures (subframe_place_bounds c.before.before.args.s); le_l = rw (lag-is c) (limited-lag_bounds c.before.before.args.lag) }
 
-loop-holds : tie.Need-loop-init invariant-loop decreases-loop
+loop-holds : tie.Need-loop-n-init invariant-loop decreases-loop
 loop-holds c = fills_start refl
 
-slice-aggregate-correlate : tie.Need-slice-aggregate-correlate invariant-loop decreases-loop
+slice-aggregate-correlate : tie.Need-slice_bounds-correlate-end invariant-loop decreases-loop
 slice-aggregate-correlate c = search rules
 
-slice-aggregate-correlate-2 : tie.Need-slice-aggregate-correlate-2 invariant-loop decreases-loop
+slice-aggregate-correlate-2 : tie.Need-slice_bounds-correlate-end-in-loop-n invariant-loop decreases-loop
 slice-aggregate-correlate-2 c = search rules
 
-correlate-requires : tie.Need-correlate-requires invariant-loop decreases-loop
+correlate-requires : tie.Need-correlate-sum-requires invariant-loop decreases-loop
 correlate-requires c κs = tt
 
-rounded-tap-sum-requires : tie.Need-rounded-tap-sum-requires invariant-loop decreases-loop
-rounded-tap-sum-requires c κs = let r = c.correlate in within-is (is-mag r.result r.type-inv) r.ensures.1
+rounded-tap-sum-requires : tie.Need-rounded_tap_sum-requires invariant-loop decreases-loop
+rounded-tap-sum-requires c κs = let r = c.correlate-sum in within-is (is-mag r.result r.type_inv) r.ensures.1
 
-mul-u : tie.Need-overflow-mul-u invariant-loop decreases-loop
+mul-u : tie.Need-offset_bounds-u-n invariant-loop decreases-loop
 mul-u c = omega arith
 
-array-set-from-u : tie.Need-array-set-from-u invariant-loop decreases-loop
+array-set-from-u : tie.Need-bounds-u-n invariant-loop decreases-loop
 array-set-from-u c = omega arith
 
-add-n : tie.Need-overflow-add-n invariant-loop decreases-loop
+add-n : tie.Need-overflow_add-n invariant-loop decreases-loop
 add-n c = omega arith
 
-loop-less : tie.Need-loop-smaller invariant-loop decreases-loop
+loop-less : tie.Need-loop-n-smaller invariant-loop decreases-loop
 loop-less c = omega arith
 
 -- what the correlation of a turn is
-module _ (c : tie.After-correlate invariant-loop decreases-loop) where
-  abbrev i : tie.At-loop invariant-loop decreases-loop
+module _ (c : tie.After-correlate-sum invariant-loop decreases-loop) where
+  abbrev i : tie.At-loop-n invariant-loop decreases-loop
   i = c.before.before.before.before
 
-  abbrev d : tie.After-delayed-samples invariant-loop decreases-loop
+  abbrev d : tie.After-delayed_samples-e invariant-loop decreases-loop
   d = i.before
 
   abbrev x : List ℤ
   x = d.before.before.before.args.signal.now
 
   abbrev taps : List ℤ
-  taps = d.before.before.before.args.t4
+  taps = d.before.before.before.args.taps
 
   abbrev p : ℕ
-  p = d.before.before.subframe-place.result
+  p = d.before.before.subframe_place-p.result
 
   abbrev l : ℕ
-  l = d.before.limited-lag.result
+  l = d.before.limited_lag-l.result
 
-  sum_is : to_z w64 (of_z w64 c.correlate.result) ≡ sum_to (λ j. entry taps j *ℤ delayed x p l (i.loop.n + j)) acb_taps
+  sum_is : to_z w64 (of_z w64 c.correlate-sum.result) ≡ sum_to (λ j. entry taps j *ℤ delayed x p l (i.loop-n.n + j)) acb_taps
   sum_is =
-      let read = ap (λ (e : List ℤ). correlation taps 0 e i.loop.n acb_taps) d.delayed-samples.ensures in
-      back w64 c.correlate.type-inv (c.correlate.ensures.0 ∙ read ∙ delayed-sum x p l taps i.loop.n c.before.before.before.loop-test.true)
+      let read = ap (λ (e : List ℤ). correlation taps 0 e i.loop-n.n acb_taps) d.delayed_samples-e.ensures in
+      back w64 c.correlate-sum.type_inv (c.correlate-sum.ensures.value ∙ read ∙ delayed-sum x p l taps i.loop-n.n c.before.before.before.loop-n-test.true)
 
-loop-again : tie.Need-loop-preserved invariant-loop decreases-loop
+loop-again : tie.Need-loop-n-preserved invariant-loop decreases-loop
 loop-again c =
-    let rounded = c.rounded-tap-sum.ensures ∙ (λ k. floor_div (sum_is c.before k +ℤ pos 8192) 16384) in
-    fills_next (i c.before).loop.inv (omega arith) (back w32 c.rounded-tap-sum.type-inv rounded)
+    let rounded = c.rounded_tap_sum.ensures ∙ (λ k. floor_div (sum_is c.before k +ℤ pos 8192) 16384) in
+    fills_next (i c.before).loop-n.inv (omega arith) (back w32 c.rounded_tap_sum.type_inv rounded)
 
 returns : tie.Need-returns invariant-loop decreases-loop
 unfolding adaptive
 returns c =
     let d = c.before.before in
     let a = d.before.before.before.args in
-    fills_end c.before.loop.invariant c.loop-test.false
-    ∙ (λ k. tabulate (adaptive_sample a.signal.now (d.before.before.subframe-place.ensures k) (lag-is d.before k) a.t4) 60)
+    fills_end c.before.loop-n.invariant c.loop-n-test.false
+    ∙ (λ k. tabulate (adaptive_sample a.signal.now (d.before.before.subframe_place-p.ensures k) (lag-is d.before k) a.t4) 60)
 
-pub acb-contribution-spec : {M : Type 1} → statement M
-acb-contribution-spec =
+pub acb_contribution_spec : {M : Type 1} → statement M
+acb_contribution_spec =
     tie.close
     (tie.spec
     invariant-loop

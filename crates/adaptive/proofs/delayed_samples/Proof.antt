@@ -13,79 +13,79 @@ use Rattle.adaptive.proofs.Fill.{fills_at}
 use Rattle.adaptive.proofs.delayed_samples.Statement.{statement}
 use Rattle.adaptive.proofs.delayed_samples.Tie as tie
 
-abbrev invariant-loop : tie.invariant-loop
+abbrev invariant-loop : tie.invariant-loop-m
 invariant-loop signal p l e₀ m₀ e m = Fills (delayed signal p l) 64 e m
 
-abbrev decreases-loop : tie.decreases-loop
+abbrev decreases-loop : tie.decreases-loop-m
 decreases-loop signal p l e₀ m₀ e m = 64 - m
 
-loop-holds : tie.Need-loop-init invariant-loop decreases-loop
+loop-holds : tie.Need-loop-m-init invariant-loop decreases-loop
 loop-holds c = fills_start refl
 
-add-if1 : tie.Need-overflow-add-if1 invariant-loop decreases-loop
+add-if1 : tie.Need-overflow_add-l invariant-loop decreases-loop
 add-if1 c = omega arith
 
-add-e : tie.Need-overflow-add-e invariant-loop decreases-loop
+add-e : tie.Need-overflow_add-e invariant-loop decreases-loop
 add-e c = omega arith
 
-sub-e : tie.Need-overflow-sub-e invariant-loop decreases-loop
+sub-e : tie.Need-overflow_sub-e invariant-loop decreases-loop
 sub-e c = omega arith
 
-add-e-2 : tie.Need-overflow-add-e-2 invariant-loop decreases-loop
+add-e-2 : tie.Need-overflow_add-e-then-m-l invariant-loop decreases-loop
 add-e-2 c = omega arith
 
-mul-e : tie.Need-overflow-mul-e invariant-loop decreases-loop
+mul-e : tie.Need-offset_bounds-signal-p invariant-loop decreases-loop
 mul-e c = omega arith
 
-element-copy-out-e : tie.Need-element-copy-out-e invariant-loop decreases-loop
+element-copy-out-e : tie.Need-bounds-signal-p invariant-loop decreases-loop
 element-copy-out-e c = omega arith
 
-mul-e-2 : tie.Need-overflow-mul-e-2 invariant-loop decreases-loop
+mul-e-2 : tie.Need-offset_bounds-e-m invariant-loop decreases-loop
 mul-e-2 c = omega arith
 
-array-set-from-e : tie.Need-array-set-from-e invariant-loop decreases-loop
+array-set-from-e : tie.Need-bounds-e-m invariant-loop decreases-loop
 array-set-from-e c = omega arith
 
-sub-e-2 : tie.Need-overflow-sub-e-2 invariant-loop decreases-loop
+sub-e-2 : tie.Need-overflow_sub-e-else-m-l invariant-loop decreases-loop
 sub-e-2 c = omega arith
 
-mul-e-3 : tie.Need-overflow-mul-e-3 invariant-loop decreases-loop
+mul-e-3 : tie.Need-offset_bounds-e-m-else-m-l invariant-loop decreases-loop
 mul-e-3 c = omega arith
 
-array-copy-out-e : tie.Need-array-copy-out-e invariant-loop decreases-loop
+array-copy-out-e : tie.Need-bounds-e-m-else-m-l invariant-loop decreases-loop
 array-copy-out-e c = omega arith
 
-mul-e-4 : tie.Need-overflow-mul-e-4 invariant-loop decreases-loop
+mul-e-4 : tie.Need-offset_bounds-e-m-else-m-l-2 invariant-loop decreases-loop
 mul-e-4 c = omega arith
 
-array-set-from-e-2 : tie.Need-array-set-from-e-2 invariant-loop decreases-loop
+array-set-from-e-2 : tie.Need-bounds-e-m-else-m-l-2 invariant-loop decreases-loop
 array-set-from-e-2 c = omega arith
 
-add-m : tie.Need-overflow-add-m invariant-loop decreases-loop
+add-m : tie.Need-overflow_add-m invariant-loop decreases-loop
 add-m c = omega arith
 
-loop-less : tie.Need-loop-smaller invariant-loop decreases-loop
+loop-less : tie.Need-loop-m-smaller invariant-loop decreases-loop
 loop-less c = omega arith
 
-loop-again : tie.Need-loop-preserved invariant-loop decreases-loop
+loop-again : tie.Need-loop-m-preserved invariant-loop decreases-loop
 loop-again c =
     let i = c.before.before in
     let a = i.before.args in
     let x = a.signal.now in
     let p = a.p in
     let l = a.l in
-    let m = i.loop.m in
-    let inv = i.loop.invariant in
+    let m = i.loop-m.m in
+    let inv = i.loop-m.invariant in
     let filled = fills_at inv (m - l) (pos 0) in
     ⊎_elim (λ w. rw w.2 (fills_next inv (omega arith) (back w16 w.1.given (delayed-first x p l m (omega arith) w.0.taken))))
     (λ w. rw w.2 (fills_next inv (omega arith) (back w16 w.1.given (filled (omega arith) ∙ delayed-again x p l m w.0.left))))
-    c.if1.branch
+    c.if-m-l.branch
 
 returns : tie.Need-returns invariant-loop decreases-loop
-returns c = fills_end c.before.loop.invariant c.loop-test.false
+returns c = fills_end c.before.loop-m.invariant c.loop-m-test.false
 
-pub delayed-samples-spec : {M : Type 1} → statement M
-delayed-samples-spec =
+pub delayed_samples_spec : {M : Type 1} → statement M
+delayed_samples_spec =
     tie.close
     (tie.spec
     invariant-loop

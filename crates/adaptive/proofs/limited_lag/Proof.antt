@@ -23,40 +23,40 @@ module _ (s : tie.Start) where
   lag = to_z w32 (of_z w32 s.args.lag)
 
   read : limited_lag lag ≡ limited_lag s.args.lag
-  read = ap limited_lag (to_z-of_z {w = w32} s.fits.lag)
+  read = ap limited_lag (to_z-of_z {w = w32} s.ranges.lag)
 
-cast-result : tie.Need-overflow-cast-result
+cast-result : tie.Need-overflow_cast-result
 cast-result c = (tt, omega arith)
 
-returns : tie.Need-returns
-returns c = let s = c.before in ap up (limited-low (pos pitch_min) (pos pitch_max) (lag s) c.if1.true) ∙ read s
+returns : tie.Need-returns-then-lag-lt-PITCH_MIN
+returns c = let s = c.before in ap up (limited-low (pos pitch_min) (pos pitch_max) (lag s) c.if-lag-lt-PITCH_MIN.true) ∙ read s
 
-cast-result-2 : tie.Need-overflow-cast-result-2
+cast-result-2 : tie.Need-overflow_cast-result-then-lag-gt-PITCH_MAX
 cast-result-2 c = (tt, omega arith)
 
-returns-2 : tie.Need-returns-2
-returns-2 c = let s = c.before.before in ap up (limited-high (pos pitch_min) (pos pitch_max) (lag s) c.before.if1.false c.if2.true) ∙ read s
+returns-2 : tie.Need-returns-then-lag-gt-PITCH_MAX
+returns-2 c = let s = c.before.before in ap up (limited-high (pos pitch_min) (pos pitch_max) (lag s) c.before.if-lag-lt-PITCH_MIN.false c.if-lag-gt-PITCH_MAX.true) ∙ read s
 
 -- what the tests leave
-module _ (c : tie.Else2) where
+module _ (c : tie.Else-lag-gt-PITCH_MAX) where
   abbrev z : ℤ
   z = lag c.before.before
 
   same : z ≡ limited (pos pitch_min) (pos pitch_max) z
-  same = limited_id (pos pitch_min) (pos pitch_max) z c.before.if1.false c.if2.false
+  same = limited_id (pos pitch_min) (pos pitch_max) z c.before.if-lag-lt-PITCH_MIN.false c.if-lag-gt-PITCH_MAX.false
 
   bounds : (18 ≤ up z) × (up z ≤ 142)
   bounds = subst (λ (v : ℤ). (18 ≤ up v) × (up v ≤ 142)) (sym same) (limited-lag_bounds z)
 
   size : T (non_neg z) × (nat_abs z ≡ up z)
-  size = let low = c.before.if1.false in let n = natural z (omega line) in (n.0, n.2)
+  size = let low = c.before.if-lag-lt-PITCH_MIN.false in let n = natural z (omega line) in (n.0, n.2)
 
-cast-result-3 : tie.Need-overflow-cast-result-3
+cast-result-3 : tie.Need-overflow_cast-result-2
 cast-result-3 c = ((size c).0, omega (arith, (size c).1, bounds c))
 
-returns-3 : tie.Need-returns-3
+returns-3 : tie.Need-returns
 returns-3 c = (size c).1 ∙ ap up (same c) ∙ read c.before.before
 
-pub limited-lag-spec : {M : Type 1} → statement M
-limited-lag-spec =
+pub limited_lag_spec : {M : Type 1} → statement M
+limited_lag_spec =
     tie.close (tie.spec cast-result returns cast-result-2 returns-2 cast-result-3 returns-3)

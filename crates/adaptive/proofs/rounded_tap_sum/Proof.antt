@@ -24,16 +24,16 @@ module _ (s : tie.Start) where
   half = of_z w64 (to_z w64 (of_z w64 s.args.sum) +ℤ pos 8192)
 
   quotient : Is w64 (of_z w64 (floor_div (to_z w64 half) 16384)) (floor_div (s.args.sum +ℤ pos 8192) 16384)
-  quotient = is-shr 16384 (is-add (is_arg s.fits.sum) (is-lit w64 8192) sum_fits) sum_fits
+  quotient = is-shr 16384 (is-add (is_arg s.ranges.sum) (is-lit w64 8192) sum_fits) sum_fits
 
-add-result : tie.Need-overflow-add-result
+add-result : tie.Need-overflow_add-result
 add-result c = need_add (is_arg c.ranges.sum) (is-lit w64 8192) (sum_fits c)
 
-cast-result : tie.Need-overflow-cast-result
+cast-result : tie.Need-overflow_cast-result
 cast-result c = need_cast (quotient c) (quotient_fits c)
 
 returns : tie.Need-returns
 returns c = (is-cast (quotient c) (quotient_fits c)).is
 
-pub rounded-tap-sum-spec : {M : Type 1} → statement M
-rounded-tap-sum-spec = tie.close (tie.spec add-result cast-result returns)
+pub rounded_tap_sum_spec : {M : Type 1} → statement M
+rounded_tap_sum_spec = tie.close (tie.spec add-result cast-result returns)

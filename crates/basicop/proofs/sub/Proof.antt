@@ -4,20 +4,20 @@ use Rattle.integers.specs.Signed.{signed, back}
 use Rattle.basicop.proofs.sub.Statement.{statement}
 use Rattle.basicop.proofs.sub.Tie as tie
 
-cast-saturate : tie.Need-overflow-cast-saturate
+cast-saturate : tie.Need-overflow_cast-a
 cast-saturate c = search signed
 
-cast-saturate-2 : tie.Need-overflow-cast-saturate-2
+cast-saturate-2 : tie.Need-overflow_cast-b
 cast-saturate-2 c = search signed
 
-sub-saturate : tie.Need-overflow-sub-saturate
+sub-saturate : tie.Need-overflow_sub-a
 sub-saturate c = search signed
 
 saturate-requires : tie.Need-saturate-requires
 saturate-requires c κs = search signed
 
 returns : tie.Need-returns
-returns c = back w16 c.saturate.type-inv (c.saturate.ensures ∙ search signed)
+returns c = back w16 c.saturate.type_inv (c.saturate.ensures ∙ search signed)
 
 pub sub_spec : {M : Type 1} → statement M
 sub_spec =

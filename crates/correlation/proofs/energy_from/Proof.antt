@@ -16,41 +16,41 @@ use Rattle.correlation.proofs.Terms.{correlation_reach, reach_or_end, energy-non
 use Rattle.correlation.proofs.energy_from.Statement.{statement}
 use Rattle.correlation.proofs.energy_from.Tie as tie
 
-reach-requires : tie.Need-reach-requires
+reach-requires : tie.Need-reach-m-requires
 reach-requires c κs = tt
 
-sum-of-products-requires : tie.Need-sum-of-products-requires
-sum-of-products-requires c κs = let r = c.reach.ensures in (omega arith, omega arith, omega arith)
+sum-of-products-requires : tie.Need-sum_of_products-requires
+sum-of-products-requires c κs = let r = c.reach-m.ensures in (omega arith, omega arith, omega arith)
 
-module _ (c : tie.After-sum-of-products) where
+module _ (c : tie.After-sum_of_products) where
   abbrev sum : ℤ
-  sum = to_z w64 (of_z w64 c.sum-of-products.result)
+  sum = to_z w64 (of_z w64 c.sum_of_products.result)
 
-  few : c.before.reach.result ≤ c.before.before.args.n
-  few = let r = c.before.reach.ensures in omega arith
+  few : c.before.reach-m.result ≤ c.before.before.args.n
+  few = let r = c.before.reach-m.ensures in omega arith
 
   sum_is : let a = c.before.before.args in sum ≡ energy a.x.now a.a a.n
   sum_is =
       let a = c.before.before.args in
-      let r = c.before.reach.ensures in
-      let k = c.before.reach.result in
+      let r = c.before.reach-m.ensures in
+      let k = c.before.reach-m.result in
       let l = length a.x.now - a.a in
       let all = reach_or_end a.n k l l (omega arith) in
-      back w64 c.sum-of-products.type-inv (c.sum-of-products.ensures.0 ∙ correlation_reach a.x.now a.a a.x.now a.a k a.n few all)
+      back w64 c.sum_of_products.type_inv (c.sum_of_products.ensures.value ∙ correlation_reach a.x.now a.a a.x.now a.a k a.n few all)
 
   not_negative : T (non_neg sum) × (pos (nat_abs sum) ≡ sum)
   not_negative = let a = c.before.before.args in let n = natural sum (subst (λ (z : ℤ). pos 0 ≤ℤ z) (sym sum_is) (energy-nonneg a.x.now a.a a.n)) in (n.0, n.1)
 
   small : Within (c.before.before.args.n * 2 ^ 30) sum
   small =
-      subst (Within (c.before.before.args.n * 2 ^ 30)) (sym (read_back w64 c.sum-of-products.result c.sum-of-products.type-inv))
-      (within-le c.sum-of-products.ensures.1 (mul-le-mul_right (2 ^ 30) few))
+      subst (Within (c.before.before.args.n * 2 ^ 30)) (sym (read_back w64 c.sum_of_products.result c.sum_of_products.type_inv))
+      (within-le c.sum_of_products.ensures.within (mul-le-mul_right (2 ^ 30) few))
 
-cast-result : tie.Need-overflow-cast-result
+cast-result : tie.Need-overflow_cast-result
 cast-result c = ((not_negative c).0, record { fits = omega (arith, (small c).within) })
 
 returns : tie.Need-returns
-returns c = ((not_negative c).1 ∙ sum_is c, (small c).within)
+returns c = record { result_value = (not_negative c).1 ∙ sum_is c; upper_bound = (small c).within }
 
-pub energy-from-spec : {M : Type 1} → statement M
-energy-from-spec = tie.close (tie.spec reach-requires sum-of-products-requires cast-result returns)
+pub energy_from_spec : {M : Type 1} → statement M
+energy_from_spec = tie.close (tie.spec reach-requires sum-of-products-requires cast-result returns)

@@ -5,5 +5,5 @@ use Rattle.correlation.proofs.high_part.Tie as tie
 returns : tie.Need-returns
 returns c = search signed
 
-pub high-part-spec : {M : Type 1} → statement M
-high-part-spec = tie.close (tie.spec returns)
+pub high_part_spec : {M : Type 1} → statement M
+high_part_spec = tie.close (tie.spec returns)

@@ -12,16 +12,16 @@ fits s =
     let p = within-mul (within-fits s.ranges.high) (within_num (pos 65536)) in
     (fits-within p tt, fits-within (within-add p (within-fits s.ranges.low)) tt)
 
-cast-result : tie.Need-overflow-cast-result
+cast-result : tie.Need-overflow_cast-result
 cast-result c = search tree
 
-mul-result : tie.Need-overflow-mul-result
+mul-result : tie.Need-overflow_mul-result
 mul-result c = let f = fits c in search tree depth 9
 
-cast-result-2 : tie.Need-overflow-cast-result-2
+cast-result-2 : tie.Need-overflow_cast-result-2
 cast-result-2 c = search tree
 
-add-result : tie.Need-overflow-add-result
+add-result : tie.Need-overflow_add-result
 add-result c = let f = fits c in search tree depth 12
 
 returns : tie.Need-returns
@@ -30,5 +30,5 @@ returns c =
     let f = fits c in
     (is-add (is_mul (is-cast (is_arg s.high) (widen s.high tt)) (is-lit w64 65536) f.0) (is-cast (is_arg s.low) (widen s.low tt)) f.1).is
 
-pub joined-spec : {M : Type 1} → statement M
-joined-spec = tie.close (tie.spec cast-result mul-result cast-result-2 add-result returns)
+pub joined_spec : {M : Type 1} → statement M
+joined_spec = tie.close (tie.spec cast-result mul-result cast-result-2 add-result returns)

@@ -19,10 +19,10 @@ multiple-fits s =
     let bounds = line-fits z s.ranges.p in
     fits-between 2147483647 m (omega line) (omega line) tt
 
-mul-result : tie.Need-overflow-mul-result
+mul-result : tie.Need-overflow_mul-result
 mul-result c = need_mul (is-shr 65536 (is_arg c.ranges.p) c.ranges.p) (is-lit w32 65536) (multiple-fits c)
 
-sub-result : tie.Need-overflow-sub-result
+sub-result : tie.Need-overflow_sub-result
 sub-result c =
     let h = is-shr 65536 (is_arg c.ranges.p) c.ranges.p in
     need_sub (is_arg c.ranges.p) (is_mul h (is-lit w32 65536) (multiple-fits c)) (fits-within (low-within c.args.p) tt)
@@ -32,5 +32,5 @@ returns c =
     let h = is-shr 65536 (is_arg c.ranges.p) c.ranges.p in
     (is-sub (is_arg c.ranges.p) (is_mul h (is-lit w32 65536) (multiple-fits c)) (fits-within (low-within c.args.p) tt)).is
 
-pub low-part-spec : {M : Type 1} → statement M
-low-part-spec = tie.close (tie.spec mul-result sub-result returns)
+pub low_part_spec : {M : Type 1} → statement M
+low_part_spec = tie.close (tie.spec mul-result sub-result returns)

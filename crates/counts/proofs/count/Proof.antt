@@ -10,42 +10,42 @@ use Rattle.counts.proofs.Tallies.{tally-fits, counted-more, counted-most, counte
 use Rattle.counts.proofs.count.Statement.{statement}
 use Rattle.counts.proofs.count.Tie as tie
 
-mul-if2 : tie.Need-overflow-mul-if2
+mul-if2 : tie.Need-offset_bounds-t-k
 mul-if2 c = search rules
 
-array-read-if2 : tie.Need-array-read-if2
+array-read-if2 : tie.Need-bounds-t-k
 array-read-if2 c = search rules
 
-mul-t : tie.Need-overflow-mul-t
+mul-t : tie.Need-offset_bounds-t-k-then-t-k-lt18446744073709551615
 mul-t c = search rules
 
-array-read-t : tie.Need-array-read-t
+array-read-t : tie.Need-bounds-t-k-then-t-k-lt18446744073709551615
 array-read-t c = search rules
 
-below : (c : tie.Then2) → get_or c.before.before.args.tallies c.before.before.args.n 0 < most
-below c = let a = c.before.before.args in ltb-true (get_or a.tallies a.n 0) most c.if2.true
+below : (c : tie.Then-t-k-lt18446744073709551615) → get_or c.before.before.args.tallies c.before.before.args.n 0 < most
+below c = let a = c.before.before.args in ltb-true (get_or a.tallies a.n 0) most c.if-t-k-lt18446744073709551615.true
 
-add-t : tie.Need-overflow-add-t
+add-t : tie.Need-overflow_add-t
 add-t c = record { fits = omega (arith, below c) }
 
-mul-t-2 : tie.Need-overflow-mul-t-2
+mul-t-2 : tie.Need-offset_bounds-t-k-then-t-k-lt18446744073709551615-2
 mul-t-2 c = search rules
 
-array-write-t : tie.Need-array-write-t
+array-write-t : tie.Need-bounds-t-k-then-t-k-lt18446744073709551615-2
 array-write-t c = search rules
 
-returns : tie.Need-returns
+returns : tie.Need-returns-then-t-k-lt18446744073709551615
 returns c = let a = c.before.before.args in counted-more a.tallies a.n (below c)
 
-returns-2 : tie.Need-returns-2
+returns-2 : tie.Need-returns-else-k-lt-NUMBERS
 returns-2 c =
     let s = c.before in
     let t = s.args.tallies in
     let n = s.args.n in
     ⊎_elim {C = t ≡ counted t n}
-    (λ w. counted-most t n (ltb-false (get_or t n 0) most w.1.left) (tally-fits t s.well-formed.0 n))
-    (λ w. counted_out t n (omega (arith, s.well-formed.0.1.0.1, w.left)))
-    c.if1.branch
+    (λ w. counted-most t n (ltb-false (get_or t n 0) most w.1.left) (tally-fits t s.well_formed.0 n))
+    (λ w. counted_out t n (omega (arith, s.well_formed.0.1.0.1, w.left)))
+    c.else-k-lt-NUMBERS.branch
 
 pub count_spec : {M : Type 1} → statement M
 count_spec =

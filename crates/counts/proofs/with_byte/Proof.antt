@@ -4,14 +4,14 @@ use Rattle.counts.proofs.Text.{text-more}
 use Rattle.counts.proofs.with_byte.Statement.{statement}
 use Rattle.counts.proofs.with_byte.Tie as tie
 
-array-write-bytes : tie.Need-array-write-bytes
+array-write-bytes : tie.Need-bounds-bytes-len
 array-write-bytes c = search rules
 
-add-t8 : tie.Need-overflow-add-t8
+add-t8 : tie.Need-overflow_add-result
 add-t8 c = search rules
 
 returns : tie.Need-returns
-returns c = let s = c.before in (text-more s.args.c s.args.b s.requires, refl)
+returns c = let s = c.before in record { by_index = text-more s.args.c s.args.b s.requires; len_value = refl }
 
-pub with-byte-spec : {M : Type 1} → statement M
-with-byte-spec = tie.close (tie.spec array-write-bytes add-t8 returns)
+pub with_byte_spec : {M : Type 1} → statement M
+with_byte_spec = tie.close (tie.spec array-write-bytes add-t8 returns)

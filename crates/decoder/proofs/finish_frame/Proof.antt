@@ -17,83 +17,83 @@ use Rattle.decoder.proofs.Fields.{field-length}
 use Rattle.decoder.proofs.finish_frame.Statement.{statement}
 use Rattle.decoder.proofs.finish_frame.Tie as tie
 
-frame-lpc-q13-requires : tie.Need-frame-lpc-q13-requires
+frame-lpc-q13-requires : tie.Need-frame_lpc_q13-sets-requires
 frame-lpc-q13-requires c κs = tt
 
-narrow-memory-requires : tie.Need-narrow-memory-requires
+narrow-memory-requires : tie.Need-narrow_memory-mem-requires
 narrow-memory-requires c κs = tt
 
-output-frame-requires : tie.Need-output-frame-requires
+output-frame-requires : tie.Need-output_frame-f-requires
 output-frame-requires c κs = tt
 
 -- ---- the samples, and the memories after them
 
-module _ (c : tie.After-output-frame) where
-  abbrev memory : tie.After-narrow-memory
+module _ (c : tie.After-output_frame-f) where
+  abbrev memory : tie.After-narrow_memory-mem
   memory = c.before.before.before
 
   abbrev start : tie.Start
   start = memory.before.before.before.before.before
 
   abbrev written : List ℤ
-  written = c.output-frame.new.0
+  written = c.output_frame-f.new.0
 
   output-length : length written ≡ 240
-  output-length = c.output-frame.auto.0 ∙ start.pre.0
+  output-length = c.output_frame-f.auto.0 ∙ start.requires.samples_len
 
-  memory-is : memory.narrow-memory.result ≡ start.args.given.syn_mem
+  memory-is : memory.narrow_memory-mem.result ≡ start.args.given.syn_mem
   memory-is =
       let given = start.args.given in
       let size = field-length given.syn_mem start.good.1.0.1.1.1.1.0.1.0.1 in
-      memory.narrow-memory.ensures ∙ memory_narrowed given size start.pre.1
+      memory.narrow_memory-mem.ensures ∙ memory_narrowed given size start.requires.given_value
 
   sets-is : let a = start.args in
-      memory.before.before.frame-lpc-q13.result ≡ frame_coefficients a.given.prev_lsp a.checked.lsps
-  sets-is = memory.before.before.frame-lpc-q13.ensures
+      memory.before.before.frame_lpc_q13-sets.result ≡ frame_coefficients a.given.prev_lsp a.checked.lsps-1
+  sets-is = memory.before.before.frame_lpc_q13-sets.ensures
 
   abbrev sets : List (List ℤ)
-  sets = memory.before.before.frame-lpc-q13.result
+  sets = memory.before.before.frame_lpc_q13-sets.result
 
   abbrev before : Filters
-  before = record { syn_mem = memory.narrow-memory.result; pf = start.args.given.pf }
+  before = record { syn_mem = memory.narrow_memory-mem.result; pf = start.args.given.pf-1 }
 
-  output-is : let a = start.args in written ≡ frame_samples a.given a.checked.lsps a.inputs
+  output-is : let a = start.args in written ≡ frame_samples a.given a.checked.lsps-1 a.inputs
   output-is =
       let a = start.args in
       let g = a.given in
-      c.output-frame.ensures.1
-      ∙ output_in_lem g.postfilter sets a.inputs before a.samples.now start.pre.0
-      ∙ (λ i. frame_output g.postfilter (sets-is i) a.inputs record { syn_mem = memory-is i; pf = g.pf })
+      c.output_frame-f.ensures.samples
+      ∙ output_in_lem g.postfilter sets a.inputs before a.samples-1.now start.requires.samples_len
+      ∙ (λ i. frame_output g.postfilter (sets-is i) a.inputs record { syn_mem = memory-is i; pf = g.pf-1 })
 
-  filters-is : let a = start.args in c.output-frame.result ≡ filters_last a.given a.checked.lsps a.inputs
+  filters-is : let a = start.args in c.output_frame-f.result ≡ filters_last a.given a.checked.lsps-1 a.inputs
   filters-is =
       let a = start.args in
       let g = a.given in
-      c.output-frame.ensures.0
-      ∙ filters_in_lem g.postfilter sets a.inputs before a.samples.now start.pre.0
-      ∙ (λ i. frame_filters g.postfilter (sets-is i) a.inputs record { syn_mem = memory-is i; pf = g.pf })
+      c.output_frame-f.ensures.memories
+      ∙ filters_in_lem g.postfilter sets a.inputs before a.samples-1.now start.requires.samples_len
+      ∙ (λ i. frame_filters g.postfilter (sets-is i) a.inputs record { syn_mem = memory-is i; pf = g.pf-1 })
 
-sub-pcm-history : tie.Need-overflow-sub-pcm-history
+sub-pcm-history : tie.Need-slice_bounds-pcm_history-count
 sub-pcm-history c = omega arith
 
-part-pcm-history-start : tie.Need-slice-bounds-pcm-history-start
+part-pcm-history-start : tie.Need-slice_bounds-pcm_history-start
 part-pcm-history-start c = omega arith
 
-part-pcm-history-end : tie.Need-slice-bounds-pcm-history-end
+part-pcm-history-end : tie.Need-slice_bounds-pcm_history-end
 part-pcm-history-end c = omega (arith, output-length c.before.before)
 
-pcm-history-requires : tie.Need-pcm-history-requires
+pcm-history-requires : tie.Need-pcm_history-tail-requires
 pcm-history-requires c κs =
     let e = output-length c.before.before.before in simp (length-take, length-drop) (omega (arith, e))
 
-history-after-requires : tie.Need-history-after-requires
+history-after-requires : tie.Need-history_after-history-requires
 history-after-requires c κs = tt
 
-widen-memory-requires : tie.Need-widen-memory-requires
+widen-memory-requires : tie.Need-widen_memory-after-requires
 widen-memory-requires c κs = tt
 
-same_length : tie.Need-same-length
-same_length c = c.before.before.before.before.before.before.before.before.before.before.output-frame.auto.0
+same_length : tie.Need-shape_of-samples
+same_length c = c.before.before.before.before.before.before.before.before.before.before.output_frame-f.auto.0
 
 returns : tie.Need-returns
 unfolding frame_state
@@ -104,27 +104,24 @@ returns c =
     let o = t.before.before.before.before in
     let a = (start o).args in
     let f = filters-is o in
-    let told = c.struct_told.given in
+    let told = c.struct_told-1.given in
     let size = output-length o in
-    let tail = take_all 120 (drop 120 (written o)) (omega (arith, length-drop 120 (written o), size)) in (
-      (λ i. acceptance a.checked.outcome record {
-        prev_lsp = a.checked.lsps;
-        exc_hist = h.history-after.ensures i;
-        syn_mem = (w.widen-memory.ensures ∙ (λ j. (f j).syn_mem)) i;
-        pf = (f i).pf;
+    let tail = take_all 120 (drop 120 (written o)) (omega (arith, length-drop 120 (written o), size)) in record { answer = (λ i. acceptance a.checked.outcome record {
+        prev_lsp = a.checked.lsps-1;
+        exc_hist = h.history_after-history.ensures i;
+        syn_mem = (w.widen_memory-after.ensures ∙ (λ j. (f j).syn_mem)) i;
+        pf = (f i).pf-1;
         last_lag = read_back w32 a.last.last_lag told.0.1 i;
         last_lag2 = read_back w32 a.last.last_lag2 told.1.0.1 i;
         last_taps_sum_q15 = read_back w32 a.last.last_taps_sum_q15 told.1.1.0.1 i;
         last_gain_unvoiced = read_back w32 a.last.last_gain_unvoiced told.1.1.1.0.1 i;
-        pcm_hist = (t.pcm-history.ensures ∙ tail ∙ ap (drop 120) (output-is o)) i;
+        pcm_hist = (t.pcm_history-tail.ensures ∙ tail ∙ ap (drop 120) (output-is o)) i;
         erased_run = a.last.erased_run;
         postfilter = a.given.postfilter;
-      }),
-      output-is o,
-    )
+      }); samples = output-is o }
 
-pub finish-frame-spec : {M : Type 1} → statement M
-finish-frame-spec =
+pub finish_frame_spec : {M : Type 1} → statement M
+finish_frame_spec =
     tie.close
     (tie.spec
     frame-lpc-q13-requires

@@ -6,13 +6,13 @@ use Rattle.adaptive.specs.Adaptive.{limited_lag, adaptive}
 use Rattle.decoder.proofs.received_subframe.Statement.{statement}
 use Rattle.decoder.proofs.received_subframe.Tie as tie
 
-acb-contribution-requires : tie.Need-acb-contribution-requires
+acb-contribution-requires : tie.Need-acb_contribution-u-requires
 acb-contribution-requires c κs = tt
 
-excitation-sum-requires : tie.Need-excitation-sum-requires
+excitation-sum-requires : tie.Need-excitation_sum-e-requires
 excitation-sum-requires c κs = tt
 
-push-excitation-requires : tie.Need-push-excitation-requires
+push-excitation-requires : tie.Need-push_excitation-requires
 push-excitation-requires c κs = tt
 
 returns : tie.Need-returns
@@ -20,13 +20,13 @@ returns c =
     let e = c.before in
     let u = e.before in
     let a = u.before.before.before.before.before.args in
-    let lag = read_back w32 a.b.lag u.before.struct_told.given.1.0.1 in
+    let lag = read_back w32 a.b.lag u.before.struct_told-1.given.1.0.1 in
     let p = subframe_place a.s in
-    let adapted = u.acb-contribution.ensures ∙ (λ i. adaptive a.t1 p (limited_lag (lag i)) a.b.taps) in
-    let summed = e.excitation-sum.ensures ∙ (λ i. limited_sum (adapted i) a.b.fixed) in
-    c.push-excitation.ensures ∙ (λ i. with_subframe a.t1 p (summed i))
+    let adapted = u.acb_contribution-u.ensures ∙ (λ i. adaptive a.t1 p (limited_lag (lag i)) a.b.taps-1) in
+    let summed = e.excitation_sum-e.ensures ∙ (λ i. limited_sum (adapted i) a.b.fixed-1) in
+    c.push_excitation.ensures ∙ (λ i. with_subframe a.t1 p (summed i))
 
-pub received-subframe-spec : {M : Type 1} → statement M
-received-subframe-spec =
+pub received_subframe_spec : {M : Type 1} → statement M
+received_subframe_spec =
     tie.close
     (tie.spec acb-contribution-requires excitation-sum-requires push-excitation-requires returns)

@@ -8,5 +8,5 @@ returns : tie.Need-returns
 unfolding tabulate is_digit digit_value
 returns c = refl
 
-pub digit-codes-spec : {M : Type 1} → statement M
-digit-codes-spec = tie.close (tie.spec returns)
+pub digit_codes_spec : {M : Type 1} → statement M
+digit_codes_spec = tie.close (tie.spec returns)

@@ -38,20 +38,20 @@ module _ (c : tie.Start) where
       let n = natural sum (omega (line, l, a)) in
       (n.0, record { fits = omega (line, l, a, n.2) }, n.2)
 
-cast-result : tie.Need-overflow-cast-result
+cast-result : tie.Need-overflow_cast-result
 cast-result c = search signed
 
-add-result : tie.Need-overflow-add-result
+add-result : tie.Need-overflow_add-result
 add-result c = need_add (whole c) (is-lit w32 65536) (fits c)
 
-cast-result-2 : tie.Need-overflow-cast-result-2
+cast-result-2 : tie.Need-overflow_cast-result-2
 cast-result-2 c = subst (λ (z : ℤ). T (non_neg z) × Fits w32 (nat_abs z)) (sym (added c)) ((unsigned c).0, (unsigned c).1)
 
-cast-result-3 : tie.Need-overflow-cast-result-3
+cast-result-3 : tie.Need-overflow_cast-result-3
 cast-result-3 c = search rules
 
 returns : tie.Need-returns
 returns c = ap (λ (z : ℤ). nat_abs z % 65536) (added c) ∙ ap (λ (n : ℕ). n % 65536) (unsigned c).2
 
-pub sample-image-spec : {M : Type 1} → statement M
-sample-image-spec = tie.close (tie.spec cast-result add-result cast-result-2 cast-result-3 returns)
+pub sample_image_spec : {M : Type 1} → statement M
+sample_image_spec = tie.close (tie.spec cast-result add-result cast-result-2 cast-result-3 returns)

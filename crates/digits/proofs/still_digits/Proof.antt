@@ -6,18 +6,18 @@ use Rattle.digits.proofs.Characters.{digits-ended, digits-first, digits-second}
 use Rattle.digits.proofs.still_digits.Statement.{statement}
 use Rattle.digits.proofs.still_digits.Tie as tie
 
-returns : tie.Need-returns
-returns c = let a = c.before.args in digits-ended a.so_far (ltb a.a 16) (ltb a.b 16) (not-true c.if1.true)
+returns : tie.Need-returns-then-not-so_far
+returns c = let a = c.before.args in digits-ended a.so_far (ltb a.a 16) (ltb a.b 16) (not-true c.if-not-so_far.true)
 
-returns-2 : tie.Need-returns-2
+returns-2 : tie.Need-returns-then-a-gt15
 returns-2 c =
     let a = c.before.before.args in
-    digits-first a.so_far (ltb a.a 16) (ltb a.b 16) (not-false c.before.if1.false) (le-ltb a.a 16 c.if2.true)
+    digits-first a.so_far (ltb a.a 16) (ltb a.b 16) (not-false c.before.if-not-so_far.false) (le-ltb a.a 16 c.if-a-gt15.true)
 
-returns-3 : tie.Need-returns-3
+returns-3 : tie.Need-returns
 returns-3 c =
     let a = c.before.before.args in
-    digits-second a.so_far (ltb a.a 16) (ltb a.b 16) (not-false c.before.if1.false) (lt-ltb a.a 16 (omega (arith, c.if2.false)))
+    digits-second a.so_far (ltb a.a 16) (ltb a.b 16) (not-false c.before.if-not-so_far.false) (lt-ltb a.a 16 (omega (arith, c.if-a-gt15.false)))
 
-pub still-digits-spec : {M : Type 1} → statement M
-still-digits-spec = tie.close (tie.spec returns returns-2 returns-3)
+pub still_digits_spec : {M : Type 1} → statement M
+still_digits_spec = tie.close (tie.spec returns returns-2 returns-3)

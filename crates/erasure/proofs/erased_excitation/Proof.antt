@@ -12,28 +12,28 @@ use Rattle.erasure.specs.Erasure.{noise_to, replay_to, erased_excitation}
 use Rattle.erasure.proofs.erased_excitation.Statement.{statement}
 use Rattle.erasure.proofs.erased_excitation.Tie as tie
 
-enum_told : tie.Need-enum-told
+enum_told : tie.Need-enum_told-1
 enum_told c = search rules
 
-attenuated-gain-requires : tie.Need-attenuated-gain-requires
+attenuated-gain-requires : tie.Need-attenuated_gain-requires
 attenuated-gain-requires c κs = tt
 
-noise-start-requires : tie.Need-noise-start-requires
+noise-start-requires : tie.Need-noise_start-requires
 noise-start-requires c κs = tt
 
-noise-frame-requires : tie.Need-noise-frame-requires
+noise-frame-requires : tie.Need-noise_frame-requires
 noise-frame-requires c κs = tt
 
-enum-known-voicing : tie.Need-enum-known-voicing
+enum-known-voicing : tie.Need-enum_known-voicing
 enum-known-voicing c = search rules
 
-attenuated-gain-requires-2 : tie.Need-attenuated-gain-requires-2
+attenuated-gain-requires-2 : tie.Need-attenuated_gain-requires-in-Voiced
 attenuated-gain-requires-2 c κs = tt
 
-replay-frame-requires : tie.Need-replay-frame-requires
+replay-frame-requires : tie.Need-replay_frame-requires
 replay-frame-requires c κs = tt
 
-returns : tie.Need-returns
+returns : tie.Need-returns-in-Unvoiced
 unfolding erased_excitation
 returns c =
     let n = c.before in
@@ -42,27 +42,27 @@ returns c =
     let b = told.before.before in
     let a = b.args in
     let read = ap (λ (z : ℤ). attenuated z a.run) (to_z-of_z {w = w16} b.ranges.gain) in
-    let gain = back w16 g.attenuated-gain.type-inv (g.attenuated-gain.ensures ∙ read) in
-    c.noise-frame.ensures
-    ∙ (λ i. in_turn (noise_to (gain i) (n.noise-start.ensures i)) a.signal)
-    ∙ sym (ap (λ (v : Voicing). erased_excitation v a.tap-sum a.gain a.run a.signal) told.enum_told.given.1)
+    let gain = back w16 g.attenuated_gain.type_inv (g.attenuated_gain.ensures ∙ read) in
+    c.noise_frame.ensures
+    ∙ (λ i. in_turn (noise_to (gain i) (n.noise_start.ensures i)) a.signal)
+    ∙ sym (ap (λ (v : Voicing). erased_excitation v a.tap-sum a.gain a.run a.signal) told.enum_told-1.given.1)
 
-returns-2 : tie.Need-returns-2
+returns-2 : tie.Need-returns-in-Voiced
 unfolding erased_excitation
 returns-2 c =
     let g = c.before in
     let v = g.before.before in
     let b = v.before.before in
     let a = b.args in
-    let l = limited_lag (pos v.voicing.given.0.0) in
+    let l = limited_lag (pos v.voicing-1.given.0.0) in
     let read = ap (λ (z : ℤ). attenuated z a.run) (to_z-of_z {w = w16} b.ranges.tap-sum) in
-    let gain = back w16 g.attenuated-gain2.type-inv (g.attenuated-gain2.ensures ∙ read) in
-    c.replay-frame.ensures
+    let gain = back w16 g.attenuated_gain-in-Voiced.type_inv (g.attenuated_gain-in-Voiced.ensures ∙ read) in
+    c.replay_frame.ensures
     ∙ (λ i. in_turn (replay_to l (gain i)) a.signal)
-    ∙ sym (ap (λ (v : Voicing). erased_excitation v a.tap-sum a.gain a.run a.signal) v.voicing.given.1)
+    ∙ sym (ap (λ (v : Voicing). erased_excitation v a.tap-sum a.gain a.run a.signal) v.voicing-1.given.1)
 
-pub erased-excitation-spec : {M : Type 1} → statement M
-erased-excitation-spec =
+pub erased_excitation_spec : {M : Type 1} → statement M
+erased_excitation_spec =
     tie.close
     (tie.spec
     enum_told

@@ -8,16 +8,16 @@ use Rattle.erasure.specs.Erasure.{replay_to}
 use Rattle.erasure.proofs.replay_frame.Statement.{statement}
 use Rattle.erasure.proofs.replay_frame.Tie as tie
 
-replay-subframe-requires : tie.Need-replay-subframe-requires
+replay-subframe-requires : tie.Need-replay_subframe-x1-requires
 replay-subframe-requires c κs = tt
 
-replay-subframe-requires-2 : tie.Need-replay-subframe-requires-2
+replay-subframe-requires-2 : tie.Need-replay_subframe-x2-requires
 replay-subframe-requires-2 c κs = tt
 
-replay-subframe-requires-3 : tie.Need-replay-subframe-requires-3
+replay-subframe-requires-3 : tie.Need-replay_subframe-x3-requires
 replay-subframe-requires-3 c κs = tt
 
-replay-subframe-requires-4 : tie.Need-replay-subframe-requires-4
+replay-subframe-requires-4 : tie.Need-replay_subframe-requires
 replay-subframe-requires-4 c κs = tt
 
 returns : tie.Need-returns
@@ -28,13 +28,13 @@ returns c =
     let b = x1.before in
     let l = limited_lag (pos b.args.lag) in
     let gain = to_z-of_z {w = w16} b.ranges.gain in
-    let one = x1.replay-subframe.ensures ∙ (λ i. replay_to l (gain i) b.args.signal Zero) in
-    let two = x2.replay-subframe2.ensures ∙ (λ i. replay_to l (gain i) (one i) One) in
-    let three = x3.replay-subframe3.ensures ∙ (λ i. replay_to l (gain i) (two i) Two) in
-    c.replay-subframe4.ensures ∙ (λ i. replay_to l (gain i) (three i) Three)
+    let one = x1.replay_subframe-x1.ensures ∙ (λ i. replay_to l (gain i) b.args.signal Zero) in
+    let two = x2.replay_subframe-x2.ensures ∙ (λ i. replay_to l (gain i) (one i) One) in
+    let three = x3.replay_subframe-x3.ensures ∙ (λ i. replay_to l (gain i) (two i) Two) in
+    c.replay_subframe.ensures ∙ (λ i. replay_to l (gain i) (three i) Three)
 
-pub replay-frame-spec : {M : Type 1} → statement M
-replay-frame-spec =
+pub replay_frame_spec : {M : Type 1} → statement M
+replay_frame_spec =
     tie.close
     (tie.spec
     replay-subframe-requires

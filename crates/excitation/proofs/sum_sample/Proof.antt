@@ -10,7 +10,7 @@ use Rattle.integers.specs.Saturation.{saturated-twice}
 use Rattle.excitation.proofs.sum_sample.Statement.{statement}
 use Rattle.excitation.proofs.sum_sample.Tie as tie
 
-l-add-requires : tie.Need-l-add-requires
+l-add-requires : tie.Need-l_add-requires
 l-add-requires c κs = tt
 
 saturate-requires : tie.Need-saturate-requires
@@ -19,11 +19,11 @@ saturate-requires c κs = tt
 returns : tie.Need-returns
 returns c =
     let s = c.before.before in
-    let l = c.before.l-add in
+    let l = c.before.l_add in
     let z = s.args.u +ℤ s.args.v in
     let sum : l.result ≡ word32 z = l.ensures ∙ (λ i. word32 (to_z-of_z {w = w32} s.ranges.u i +ℤ to_z-of_z {w = w32} s.ranges.v i)) in
-    let read = ap (λ (y : ℤ). word16 y) (back w32 l.type-inv sum) in
-    back w16 c.saturate.type-inv (c.saturate.ensures ∙ read ∙ saturated-twice 32767 2147483647 (lit≤ tt) z)
+    let read = ap (λ (y : ℤ). word16 y) (back w32 l.type_inv sum) in
+    back w16 c.saturate.type_inv (c.saturate.ensures ∙ read ∙ saturated-twice 32767 2147483647 (lit≤ tt) z)
 
-pub sum-sample-spec : {M : Type 1} → statement M
-sum-sample-spec = tie.close (tie.spec l-add-requires saturate-requires returns)
+pub sum_sample_spec : {M : Type 1} → statement M
+sum_sample_spec = tie.close (tie.spec l-add-requires saturate-requires returns)

@@ -14,36 +14,36 @@ use Rattle.formant.proofs.Zeros.{sums, weighted-within, sums-prediction}
 use Rattle.formant.proofs.formant_subframe.Statement.{statement}
 use Rattle.formant.proofs.formant_subframe.Tie as tie
 
-postfilter-zero-requires : tie.Need-postfilter-zero-requires
+postfilter-zero-requires : tie.Need-postfilter_zero-requires
 postfilter-zero-requires c κs = tt
 
-weighted-coefficients-requires : tie.Need-weighted-coefficients-requires
+weighted-coefficients-requires : tie.Need-weighted_coefficients-z-requires
 weighted-coefficients-requires c κs = tt
 
-postfilter-pole-requires : tie.Need-postfilter-pole-requires
+postfilter-pole-requires : tie.Need-postfilter_pole-requires
 postfilter-pole-requires c κs = tt
 
-weighted-coefficients-requires-2 : tie.Need-weighted-coefficients-requires-2
+weighted-coefficients-requires-2 : tie.Need-weighted_coefficients-p-requires
 weighted-coefficients-requires-2 c κs = tt
 
-input-line-requires : tie.Need-input-line-requires
+input-line-requires : tie.Need-input_line-requires
 input-line-requires c κs = tt
 
-zeros-is : (c : tie.After-weighted-coefficients) → c.weighted-coefficients.result ≡ zeros c.before.before.args.a
-zeros-is c = c.weighted-coefficients.ensures ∙ ap (weighted c.before.before.args.a) c.before.postfilter-zero.ensures
+zeros-is : (c : tie.After-weighted_coefficients-z) → c.weighted_coefficients-z.result ≡ zeros c.before.before.args.a
+zeros-is c = c.weighted_coefficients-z.ensures ∙ ap (weighted c.before.before.args.a) c.before.postfilter_zero.ensures
 
-poles-is : (c : tie.After-weighted-coefficients2) → c.weighted-coefficients2.result ≡ poles c.before.before.before.before.args.a
-poles-is c = c.weighted-coefficients2.ensures ∙ ap (weighted c.before.before.before.before.args.a) c.before.postfilter-pole.ensures
+poles-is : (c : tie.After-weighted_coefficients-p) → c.weighted_coefficients-p.result ≡ poles c.before.before.before.before.args.a
+poles-is c = c.weighted_coefficients-p.ensures ∙ ap (weighted c.before.before.before.before.args.a) c.before.postfilter_pole.ensures
 
-zero-sums-requires : tie.Need-zero-sums-requires
+zero-sums-requires : tie.Need-zero_sums-less-requires
 zero-sums-requires c κs =
     let w = c.before.before.before in
     let s = w.before.before in
-    let fit : AllFit w16 s.args.a = all_fit 10 s.well-formed.0 in
+    let fit : AllFit w16 s.args.a = all_fit 10 s.well_formed.0 in
     subst (λ (l : List ℤ). (j : ℕ) → j < 10 → Within (nat_abs (entry postfilter_zeros j)) (entry l j)) (sym (zeros-is w))
     (weighted-within s.args.a fit postfilter_zeros)
 
-pole-subframe-requires : tie.Need-pole-subframe-requires
+pole-subframe-requires : tie.Need-pole_subframe-requires
 pole-subframe-requires c κs = tt
 
 returns : tie.Need-returns
@@ -53,17 +53,14 @@ returns c =
     let w = p.before.before in
     let a = w.before.before.args in
     let y = a.y.now in
-    let line = t.before.input-line.ensures in
-    let less = t.zero-sums.ensures ∙ (λ i. sums (zeros-is w i) (line i) 10) ∙ sums-prediction y a.num (zeros a.a) in
+    let line = t.before.input_line.ensures in
+    let less = t.zero_sums-less.ensures ∙ (λ i. sums (zeros-is w i) (line i) 10) ∙ sums-prediction y a.num (zeros a.a) in
     let v = predictions_read a.a y a.num less in
-    let passed = difference y t.zero-sums.result in
-    let r = c.pole-subframe.ensures in (
-      r.0 ∙ ap (λ (q : List ℤ). driven_subframe q passed a.den) (poles-is p) ∙ same_subframe (poles a.a) a.den v,
-      r.1 ∙ ap (λ (q : List ℤ). driven_memory q passed a.den) (poles-is p) ∙ same_memory (poles a.a) a.den v,
-    )
+    let passed = difference y t.zero_sums-less.result in
+    let r = c.pole_subframe.ensures in record { out_value = r.out_value ∙ ap (λ (q : List ℤ). driven_subframe q passed a.den) (poles-is p) ∙ same_subframe (poles a.a) a.den v; mem_value = r.mem_value ∙ ap (λ (q : List ℤ). driven_memory q passed a.den) (poles-is p) ∙ same_memory (poles a.a) a.den v }
 
-pub formant-subframe-spec : {M : Type 1} → statement M
-formant-subframe-spec =
+pub formant_subframe_spec : {M : Type 1} → statement M
+formant_subframe_spec =
     tie.close
     (tie.spec
     postfilter-zero-requires

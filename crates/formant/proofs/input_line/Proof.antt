@@ -9,57 +9,57 @@ use Rattle.formant.proofs.Zeros.{placed, placed_input, memory_of, memory_of_lem,
 use Rattle.formant.proofs.input_line.Statement.{statement}
 use Rattle.formant.proofs.input_line.Tie as tie
 
-abbrev invariant-loop : tie.invariant-loop
+abbrev invariant-loop : tie.invariant-loop-m
 invariant-loop y line₀ m₀ line m = (10 ≤ m) × Fills (placed y (memory_of line₀)) 70 line m
 
-abbrev decreases-loop : tie.decreases-loop
+abbrev decreases-loop : tie.decreases-loop-m
 decreases-loop y line₀ m₀ line m = 70 - m
 
-oldest-first-requires : tie.Need-oldest-first-requires invariant-loop decreases-loop
+oldest-first-requires : tie.Need-oldest_first-line-requires invariant-loop decreases-loop
 oldest-first-requires c κs = tt
 
-loop-holds : tie.Need-loop-init invariant-loop decreases-loop
-loop-holds c = (omega arith, line-start c.before.args.y.now c.oldest-first.result c.oldest-first.ensures.len)
+loop-holds : tie.Need-loop-m-init invariant-loop decreases-loop
+loop-holds c = (omega arith, line-start c.before.args.y.now c.oldest_first-line.result c.oldest_first-line.ensures.len)
 
-sub-line : tie.Need-overflow-sub-line invariant-loop decreases-loop
+sub-line : tie.Need-overflow_sub-line invariant-loop decreases-loop
 sub-line c = omega arith
 
-mul-line : tie.Need-overflow-mul-line invariant-loop decreases-loop
+mul-line : tie.Need-offset_bounds-y-m invariant-loop decreases-loop
 mul-line c = omega arith
 
-element-copy-out-line : tie.Need-element-copy-out-line invariant-loop decreases-loop
+element-copy-out-line : tie.Need-bounds-y-m invariant-loop decreases-loop
 element-copy-out-line c = omega arith
 
-mul-line-2 : tie.Need-overflow-mul-line-2 invariant-loop decreases-loop
+mul-line-2 : tie.Need-offset_bounds-line-m invariant-loop decreases-loop
 mul-line-2 c = omega arith
 
-array-set-from-line : tie.Need-array-set-from-line invariant-loop decreases-loop
+array-set-from-line : tie.Need-bounds-line-m invariant-loop decreases-loop
 array-set-from-line c = omega arith
 
-add-m : tie.Need-overflow-add-m invariant-loop decreases-loop
+add-m : tie.Need-overflow_add-m invariant-loop decreases-loop
 add-m c = omega arith
 
-loop-less : tie.Need-loop-smaller invariant-loop decreases-loop
+loop-less : tie.Need-loop-m-smaller invariant-loop decreases-loop
 loop-less c = omega arith
 
-loop-again : tie.Need-loop-preserved invariant-loop decreases-loop
+loop-again : tie.Need-loop-m-preserved invariant-loop decreases-loop
 loop-again c =
     let l = c.before.before in
     let y = l.before.before.args.y.now in
-    let m = l.loop.m in
-    let v = read_back w16 (entry y (m - 10)) c.line.given ∙ sym (placed_input y (memory_of l.before.oldest-first.result) m l.loop.invariant.0 (omega arith)) in
-    (omega arith, fills_next l.loop.invariant.1 (omega arith) v)
+    let m = l.loop-m.m in
+    let v = read_back w16 (entry y (m - 10)) c.line-1.given ∙ sym (placed_input y (memory_of l.before.oldest_first-line.result) m l.loop-m.invariant.0 (omega arith)) in
+    (omega arith, fills_next l.loop-m.invariant.1 (omega arith) v)
 
 returns : tie.Need-returns invariant-loop decreases-loop
 returns c =
     let l = c.before in
     let s = l.before.before in
-    let o = l.before.oldest-first in
-    let memory = memory_of_lem s.args.mem o.result s.well-formed.1.0.1.0.1 o.ensures in
-    fills_end l.loop.invariant.1 (omega arith) ∙ (λ i. tabulate (placed s.args.y.now (memory i)) 70)
+    let o = l.before.oldest_first-line in
+    let memory = memory_of_lem s.args.mem o.result s.well_formed.1.0.1.0.1 o.ensures in
+    fills_end l.loop-m.invariant.1 (omega arith) ∙ (λ i. tabulate (placed s.args.y.now (memory i)) 70)
 
-pub input-line-spec : {M : Type 1} → statement M
-input-line-spec =
+pub input_line_spec : {M : Type 1} → statement M
+input_line_spec =
     tie.close
     (tie.spec
     invariant-loop

@@ -10,16 +10,16 @@ use Rattle.formant.proofs.tap.Tie as tie
 fits : (s : tie.Start) → SFits w32 (s.args.w *ℤ s.args.x)
 fits s = fits-within (within-mul (within-fits s.ranges.w) (within-fits s.ranges.x)) tt
 
-cast-result : tie.Need-overflow-cast-result
+cast-result : tie.Need-overflow_cast-result
 cast-result c = search tree
 
-cast-result-2 : tie.Need-overflow-cast-result-2
+cast-result-2 : tie.Need-overflow_cast-result-2
 cast-result-2 c = search tree
 
-mul-result : tie.Need-overflow-mul-result
+mul-result : tie.Need-overflow_mul-result
 mul-result c = let f = fits c in search tree depth 9
 
-add-result : tie.Need-overflow-add-result
+add-result : tie.Need-overflow_add-result
 add-result c =
     let s = c.ranges in
     let product = is_mul (is-cast (is_arg s.w) (widen s.w tt)) (is-cast (is_arg s.x) (widen s.x tt)) (fits c) in
@@ -31,5 +31,5 @@ returns c =
     let product = is_mul (is-cast (is_arg s.w) (widen s.w tt)) (is-cast (is_arg s.x) (widen s.x tt)) (fits c) in
     (is-add (is_arg s.sum) product c.requires).is
 
-pub tap-spec : {M : Type 1} → statement M
-tap-spec = tie.close (tie.spec cast-result cast-result-2 mul-result add-result returns)
+pub tap_spec : {M : Type 1} → statement M
+tap_spec = tie.close (tie.spec cast-result cast-result-2 mul-result add-result returns)

@@ -9,56 +9,56 @@ use Rattle.basicop.specs.Operators.{mult16}
 use Rattle.formant.proofs.weighted_coefficients.Statement.{statement}
 use Rattle.formant.proofs.weighted_coefficients.Tie as tie
 
-abbrev invariant-loop : tie.invariant-loop
+abbrev invariant-loop : tie.invariant-loop-i
 invariant-loop a table w₀ i₀ w i = Fills (λ k. mult16 (entry a k) (entry table k)) 10 w i
 
-abbrev decreases-loop : tie.decreases-loop
+abbrev decreases-loop : tie.decreases-loop-i
 decreases-loop a table w₀ i₀ w i = 10 - i
 
-loop-holds : tie.Need-loop-init invariant-loop decreases-loop
+loop-holds : tie.Need-loop-i-init invariant-loop decreases-loop
 loop-holds c = fills_start refl
 
-mul-mult : tie.Need-overflow-mul-mult invariant-loop decreases-loop
+mul-mult : tie.Need-offset_bounds-a-i invariant-loop decreases-loop
 mul-mult c = omega arith
 
-array-copy-out-mult : tie.Need-array-copy-out-mult invariant-loop decreases-loop
+array-copy-out-mult : tie.Need-bounds-a-i invariant-loop decreases-loop
 array-copy-out-mult c = omega arith
 
-mul-mult-2 : tie.Need-overflow-mul-mult-2 invariant-loop decreases-loop
+mul-mult-2 : tie.Need-offset_bounds-table-i invariant-loop decreases-loop
 mul-mult-2 c = omega arith
 
-array-copy-out-mult-2 : tie.Need-array-copy-out-mult-2 invariant-loop decreases-loop
+array-copy-out-mult-2 : tie.Need-bounds-table-i invariant-loop decreases-loop
 array-copy-out-mult-2 c = omega arith
 
 mult-requires : tie.Need-mult-requires invariant-loop decreases-loop
 mult-requires c κs = tt
 
-mul-w : tie.Need-overflow-mul-w invariant-loop decreases-loop
+mul-w : tie.Need-offset_bounds-w-i invariant-loop decreases-loop
 mul-w c = omega arith
 
-array-set-from-w : tie.Need-array-set-from-w invariant-loop decreases-loop
+array-set-from-w : tie.Need-bounds-w-i invariant-loop decreases-loop
 array-set-from-w c = omega arith
 
-add-i : tie.Need-overflow-add-i invariant-loop decreases-loop
+add-i : tie.Need-overflow_add-i invariant-loop decreases-loop
 add-i c = omega arith
 
-loop-less : tie.Need-loop-smaller invariant-loop decreases-loop
+loop-less : tie.Need-loop-i-smaller invariant-loop decreases-loop
 loop-less c = omega arith
 
-loop-again : tie.Need-loop-preserved invariant-loop decreases-loop
+loop-again : tie.Need-loop-i-preserved invariant-loop decreases-loop
 loop-again c =
     let l = c.before.before.before.before in
     let a = l.before.args in
-    let k = l.loop.i in
-    let x = read_back w16 (entry a.t1 k) c.before.before.mult-arg.given in
-    let y = read_back w16 (entry a.t2 k) c.before.mult-arg2.given in
-    fills_next l.loop.invariant (omega arith) (back w16 c.mult.type-inv (c.mult.ensures ∙ (λ i. mult16 (x i) (y i))))
+    let k = l.loop-i.i in
+    let x = read_back w16 (entry a.t1 k) c.before.before.mult-arg-1.given in
+    let y = read_back w16 (entry a.t2 k) c.before.mult-arg-in-loop-i-1.given in
+    fills_next l.loop-i.invariant (omega arith) (back w16 c.mult.type_inv (c.mult.ensures ∙ (λ i. mult16 (x i) (y i))))
 
 returns : tie.Need-returns invariant-loop decreases-loop
-returns c = fills_end c.before.loop.invariant (omega arith)
+returns c = fills_end c.before.loop-i.invariant (omega arith)
 
-pub weighted-coefficients-spec : {M : Type 1} → statement M
-weighted-coefficients-spec =
+pub weighted_coefficients_spec : {M : Type 1} → statement M
+weighted_coefficients_spec =
     tie.close
     (tie.spec
     invariant-loop

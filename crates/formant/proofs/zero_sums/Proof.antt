@@ -11,64 +11,64 @@ use Rattle.formant.proofs.Zeros.{sums, sums-start, sums_next, sums-fit}
 use Rattle.formant.proofs.zero_sums.Statement.{statement}
 use Rattle.formant.proofs.zero_sums.Tie as tie
 
-abbrev invariant-loop : tie.invariant-loop
+abbrev invariant-loop : tie.invariant-loop-j
 invariant-loop w line sums₀ j₀ l j = (j ≤ 10) × (l ≡ sums w line j)
 
-abbrev decreases-loop : tie.decreases-loop
+abbrev decreases-loop : tie.decreases-loop-j
 decreases-loop w line sums₀ j₀ l j = 10 - j
 
-loop-holds : tie.Need-loop-init invariant-loop decreases-loop
-loop-holds c = (omega arith, sums-start c.args.t1 c.args.t2)
+loop-holds : tie.Need-loop-j-init invariant-loop decreases-loop
+loop-holds c = (omega arith, sums-start c.args.w c.args.line)
 
-mul-tapped : tie.Need-overflow-mul-tapped invariant-loop decreases-loop
+mul-tapped : tie.Need-offset_bounds-w-j invariant-loop decreases-loop
 mul-tapped c = omega arith
 
-array-copy-out-tapped : tie.Need-array-copy-out-tapped invariant-loop decreases-loop
+array-copy-out-tapped : tie.Need-bounds-w-j invariant-loop decreases-loop
 array-copy-out-tapped c = omega arith
 
-sub-tapped : tie.Need-overflow-sub-tapped invariant-loop decreases-loop
+sub-tapped : tie.Need-overflow_sub-j invariant-loop decreases-loop
 sub-tapped c = omega arith
 
 -- the sums with one product more, as the code has its coefficient and as it is
-module _ (c : tie.After-line invariant-loop decreases-loop) where
-  abbrev at-loop : tie.At-loop invariant-loop decreases-loop
+module _ (c : tie.After-line-1 invariant-loop decreases-loop) where
+  abbrev at-loop : tie.At-loop-j invariant-loop decreases-loop
   at-loop = c.before.before.before
 
   abbrev with : ℤ → List ℤ
-  with v = tabulate (λ n. entry at-loop.loop.sums n +ℤ v *ℤ entry at-loop.before.args.t2 (n + (9 - at-loop.loop.j))) 60
+  with v = tabulate (λ n. entry at-loop.loop-j.sums n +ℤ v *ℤ entry at-loop.before.args.line (n + (9 - at-loop.loop-j.j))) 60
 
-  next-is : let z = entry at-loop.before.args.t1 at-loop.loop.j in
-      with (to_z w16 (of_z w16 z)) ≡ sums at-loop.before.args.t1 at-loop.before.args.t2 (at-loop.loop.j + 1)
+  next-is : let z = entry at-loop.before.args.w at-loop.loop-j.j in
+      with (to_z w16 (of_z w16 z)) ≡ sums at-loop.before.args.w at-loop.before.args.line (at-loop.loop-j.j + 1)
   next-is =
       let a = at-loop.before.args in
-      let j = at-loop.loop.j in
-      ap with (read_back w16 (entry a.t1 j) c.before.tapped-arg.given) ∙ sums_next a.t1 a.t2 j at-loop.loop.inv.1
+      let j = at-loop.loop-j.j in
+      ap with (read_back w16 (entry a.t1 j) c.before.tapped-arg-1.given) ∙ sums_next a.t1 a.t2 j at-loop.loop-j.inv.1
 
-tapped-requires : tie.Need-tapped-requires invariant-loop decreases-loop
+tapped-requires : tie.Need-tapped-next-requires invariant-loop decreases-loop
 tapped-requires c κs =
     let l = at-loop c in
     let s = l.before in
-    let h = c.before.before.loop-test.true in
-    let fit : AllFit w16 s.args.t2 = all_fit 70 s.good.1.0 in
-    (omega arith, subst (AllFit w32) (sym (next-is c)) (sums-fit s.args.t1 s.args.t2 s.pre fit (l.loop.j + 1) (omega arith)))
+    let h = c.before.before.loop-j-test.true in
+    let fit : AllFit w16 s.args.line = all_fit 70 s.good.1.0 in
+    record { k_bound = omega arith; all_fit = subst (AllFit w32) (sym (next-is c)) (sums-fit s.args.w s.args.line s.requires fit (l.loop-j.j + 1) (omega arith)) }
 
-add-j : tie.Need-overflow-add-j invariant-loop decreases-loop
+add-j : tie.Need-overflow_add-j invariant-loop decreases-loop
 add-j c = omega arith
 
-loop-less : tie.Need-loop-smaller invariant-loop decreases-loop
+loop-less : tie.Need-loop-j-smaller invariant-loop decreases-loop
 loop-less c = omega arith
 
-loop-again : tie.Need-loop-preserved invariant-loop decreases-loop
-loop-again c = (omega arith, c.tapped.ensures ∙ next-is c.before)
+loop-again : tie.Need-loop-j-preserved invariant-loop decreases-loop
+loop-again c = (omega arith, c.tapped-next.ensures ∙ next-is c.before)
 
 returns : tie.Need-returns invariant-loop decreases-loop
 returns c =
     let l = c.before in
-    let last : l.loop.j ≡ 10 = omega arith in
-    l.loop.invariant.1 ∙ ap (sums l.before.args.t1 l.before.args.t2) last
+    let last : l.loop-j.j ≡ 10 = omega arith in
+    l.loop-j.invariant.1 ∙ ap (sums l.before.args.w l.before.args.line) last
 
-pub zero-sums-spec : {M : Type 1} → statement M
-zero-sums-spec =
+pub zero_sums_spec : {M : Type 1} → statement M
+zero_sums_spec =
     tie.close
     (tie.spec
     invariant-loop

@@ -13,5 +13,5 @@ divide-requires c κs = tt
 returns : tie.Need-returns
 returns c = c.divide.ensures ∙ (λ i. c.before.product.ensures i / zero-add c.before.before.args.d i)
 
-pub metric-spec : {M : Type 1} → statement M
-metric-spec = tie.close (tie.spec product-requires divide-requires returns)
+pub metric_spec : {M : Type 1} → statement M
+metric_spec = tie.close (tie.spec product-requires divide-requires returns)

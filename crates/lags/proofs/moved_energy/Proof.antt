@@ -11,88 +11,88 @@ use Rattle.lags.proofs.Energies.{energy-ahead, energy-back}
 use Rattle.lags.proofs.moved_energy.Statement.{statement}
 use Rattle.lags.proofs.moved_energy.Tie as tie
 
-enum_told : tie.Need-enum-told
+enum_told : tie.Need-enum_told-1
 enum_told c = search rules
 
-add-square-at : tie.Need-overflow-add-square-at
+add-square-at : tie.Need-overflow_add-q
 add-square-at c = omega arith
 
-square-at-requires : tie.Need-square-at-requires
+square-at-requires : tie.Need-square_at-requires
 square-at-requires c κs = tt
 
-add-result : tie.Need-overflow-add-result
-add-result c = omega (arith, c.square-at.ensures.1)
+add-result : tie.Need-overflow_add-result
+add-result c = omega (arith, c.square_at.ensures.upper_bound)
 
-square-at-requires-2 : tie.Need-square-at-requires-2
+square-at-requires-2 : tie.Need-square_at-requires-in-Forward
 square-at-requires-2 c κs = tt
 
 -- one place further
-ahead : (c : tie.After-square-at2) → let s = c.before.before.before.before in
+ahead : (c : tie.After-square_at-in-Forward) → let s = c.before.before.before.before in
     let a = s.args in
-    let v = a.e + c.before.square-at.result in
-    (c.square-at2.result ≤ v) × (pos (v - c.square-at2.result) ≡ energy a.x.now (a.q + 1) 60)
+    let v = a.e + c.before.square_at.result in
+    (c.square_at-in-Forward.result ≤ v) × (pos (v - c.square_at-in-Forward.result) ≡ energy a.x.now (a.q + 1) 60)
 ahead c =
     let s = c.before.before.before.before in
     let a = s.args in
-    energy-ahead a.x.now a.q 60 a.e c.before.square-at.result c.square-at2.result
-    s.requires.0 c.before.square-at.ensures.0 c.square-at2.ensures.0
+    energy-ahead a.x.now a.q 60 a.e c.before.square_at.result c.square_at-in-Forward.result
+    s.requires.e_value c.before.square_at.ensures.result_value c.square_at-in-Forward.ensures.result_value
 
-sub-result : tie.Need-overflow-sub-result
+sub-result : tie.Need-overflow_sub-result
 sub-result c = (ahead c).0
 
-enum-told-2 : tie.Need-enum-told-2
+enum-told-2 : tie.Need-enum_told-in-Backward
 enum-told-2 c = search rules
 
-sub-square-at : tie.Need-overflow-sub-square-at
+sub-square-at : tie.Need-overflow_sub-q
 sub-square-at c = omega arith
 
-square-at-requires-3 : tie.Need-square-at-requires-3
+square-at-requires-3 : tie.Need-square_at-requires-in-Backward
 square-at-requires-3 c κs = tt
 
-add-result-2 : tie.Need-overflow-add-result-2
-add-result-2 c = omega (arith, c.square-at3.ensures.1)
+add-result-2 : tie.Need-overflow_add-result-in-Backward
+add-result-2 c = omega (arith, c.square_at-in-Backward.ensures.upper_bound)
 
-add-square-at-2 : tie.Need-overflow-add-square-at-2
+add-square-at-2 : tie.Need-overflow_add-q-in-Backward
 add-square-at-2 c = omega arith
 
-square-at-requires-4 : tie.Need-square-at-requires-4
+square-at-requires-4 : tie.Need-square_at-requires-in-Backward-2
 square-at-requires-4 c κs = tt
 
 -- one place back
-behind : (c : tie.After-square-at4) → let s = c.before.before.before.before in
+behind : (c : tie.After-square_at-in-Backward-2) → let s = c.before.before.before.before in
     let a = s.args in
-    let v = a.e + c.before.square-at3.result in
-    (c.square-at4.result ≤ v) × (pos (v - c.square-at4.result) ≡ energy a.x.now (a.q - 1) 60)
+    let v = a.e + c.before.square_at-in-Backward.result in
+    (c.square_at-in-Backward-2.result ≤ v) × (pos (v - c.square_at-in-Backward-2.result) ≡ energy a.x.now (a.q - 1) 60)
 behind c =
     let s = c.before.before.before.before in
     let a = s.args in
     let x = a.x.now in
-    let here : a.q ≡ a.q - 1 + 1 = omega (arith, s.requires.1.1.0) in
-    let last : a.q + 59 ≡ a.q - 1 + 60 = omega (arith, s.requires.1.1.0) in
-    energy-back x (a.q - 1) 60 a.e c.before.square-at3.result c.square-at4.result
-    (s.requires.0 ∙ ap (λ (n : ℕ). energy x n 60) here)
-    c.before.square-at3.ensures.0
-    (c.square-at4.ensures.0 ∙ ap (λ (n : ℕ). entry x n *ℤ entry x n) last)
+    let here : a.q ≡ a.q - 1 + 1 = omega (arith, s.requires.q_nonzero.0) in
+    let last : a.q + 59 ≡ a.q - 1 + 60 = omega (arith, s.requires.q_nonzero.0) in
+    energy-back x (a.q - 1) 60 a.e c.before.square_at-in-Backward.result c.square_at-in-Backward-2.result
+    (s.requires.e_value ∙ ap (λ (n : ℕ). energy x n 60) here)
+    c.before.square_at-in-Backward.ensures.result_value
+    (c.square_at-in-Backward-2.ensures.result_value ∙ ap (λ (n : ℕ). entry x n *ℤ entry x n) last)
 
-sub-result-2 : tie.Need-overflow-sub-result-2
+sub-result-2 : tie.Need-overflow_sub-result-in-Backward
 sub-result-2 c = (behind c).0
 
-returns : tie.Need-returns
+returns : tie.Need-returns-in-Forward
 returns c =
     let t = c.before.before in
     let a = t.before.before.args in
-    let moved = sym (ap (λ (to : Direction). energy a.x.now (next to a.q) 60) t.enum_told.given.1) in
-    ((ahead c).1 ∙ moved, omega (arith, c.before.square-at.ensures.1))
+    let moved = sym (ap (λ (to : Direction). energy a.x.now (next to a.q) 60) t.enum_told-1.given.1) in
+    record { result_value = (ahead c).1 ∙ moved; upper_bound = omega (arith, c.before.square_at.ensures.upper_bound) }
 
-returns-2 : tie.Need-returns-2
+returns-2 : tie.Need-returns-in-Backward
 returns-2 c =
     let t = c.before.before in
     let a = t.before.before.args in
-    let moved = sym (ap (λ (to : Direction). energy a.x.now (next to a.q) 60) t.enum-told2.given.1) in
-    ((behind c).1 ∙ moved, omega (arith, c.before.square-at3.ensures.1))
+    let moved = sym (ap (λ (to : Direction). energy a.x.now (next to a.q) 60) t.enum_told-in-Backward-1.given.1) in
+    record { result_value = (behind c).1 ∙ moved; upper_bound = omega (arith, c.before.square_at-in-Backward.ensures.upper_bound) }
 
-pub moved-energy-spec : {M : Type 1} → statement M
-moved-energy-spec =
+pub moved_energy_spec : {M : Type 1} → statement M
+moved_energy_spec =
     tie.close
     (tie.spec
     enum_told

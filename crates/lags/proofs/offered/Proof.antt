@@ -23,8 +23,8 @@ use Rattle.lags.proofs.Searches.{leads_uncounted, leads_beaten, leads_unbeaten}
 use Rattle.lags.proofs.offered.Statement.{statement}
 use Rattle.lags.proofs.offered.Tie as tie
 
-add-if1 : tie.Need-overflow-add-if1
-add-if1 s = let a = s.args in omega (arith, s.requires.1.0, window-most a.to a.p (a.lo + a.k))
+add-if1 : tie.Need-overflow_add-q
+add-if1 s = let a = s.args in omega (arith, s.requires.q_value, window-most a.to a.p (a.lo + a.k))
 
 -- the lag that is offered, and what led before it
 module _ (s : tie.Start) where
@@ -47,109 +47,106 @@ module _ (s : tie.Start) where
   best = s.args.best
 
   leads : Leads x to p lo k best
-  leads = s.pre.1.1.1.1.0
+  leads = s.requires.leads
 
   bounded : Small best
-  bounded = s.pre.1.1.1.1.1
+  bounded = s.requires.small
 
   -- it still leads where the lag does not count
   still : counts x to p (lo + k) ≡ false → Leads x to p lo (k + 1) best × Small best
   still h = (leads_uncounted x to p lo k best leads h, bounded)
 
   loud : (t : Bool) → lt_z (pos 0) (pos s.args.d) ≡ t → lt_z (pos 0) (lag_energy x to p (lo + k)) ≡ t
-  loud t e = sym (ap (lt_z (pos 0)) s.pre.1.1.0) ∙ e
+  loud t e = sym (ap (lt_z (pos 0)) s.requires.d_value) ∙ e
 
-returns : tie.Need-returns
+returns : tie.Need-returns-then-q-gt-SIGNAL_SIZE
 returns c =
     let s = c.before in
-    let past = subst (λ (q : ℕ). 386 < q + 60) s.requires.1.0 c.if1.true in
+    let past = subst (λ (q : ℕ). 386 < q + 60) s.requires.q_value c.if-q-gt-SIGNAL_SIZE.true in
     still s (counts-not-inside (x s) (to s) (p s) (lo s + k s) past)
 
-returns-2 : tie.Need-returns-2
+returns-2 : tie.Need-returns-then-d-eq0
 returns-2 c =
     let s = c.before.before in
-    let silent = loud s false (le-ltb 0 s.args.d (omega (arith, c.if2.true))) in
+    let silent = loud s false (le-ltb 0 s.args.d (omega (arith, c.if-d-eq0.true))) in
     still s (counts-not-loud (x s) (to s) (p s) (lo s + k s) silent)
 
-correlate-requires : tie.Need-correlate-requires
+correlate-requires : tie.Need-correlate-s-requires
 correlate-requires c κs = tt
 
 -- its correlation, as read from the call's bits
-module _ (r : tie.After-correlate) where
+module _ (r : tie.After-correlate-s) where
   abbrev start : tie.Start
   start = r.before.before.before
 
   abbrev read : ℤ
-  read = to_z w64 (of_z w64 r.correlate.result)
+  read = to_z w64 (of_z w64 r.correlate-s.result)
 
   abbrev meant : ℤ
   meant = lag_correlation (x start) (to start) (p start) (lo start + k start)
 
   read_is : read ≡ meant
   read_is =
-      back w64 r.correlate.ok r.correlate.ensures.0
-      ∙ ap (λ (q : ℕ). correlation (x start) (p start) (x start) q 60) start.pre.1.0
+      back w64 r.correlate-s.ok r.correlate-s.ensures.value
+      ∙ ap (λ (q : ℕ). correlation (x start) (p start) (x start) q 60) start.requires.q_value
 
   small : Within (60 * 2 ^ 30) read
-  small = within-is (is-mag r.correlate.result r.correlate.ok) r.correlate.ensures.1
+  small = within-is (is-mag r.correlate-s.result r.correlate-s.ok) r.correlate-s.ensures.within
 
   alike : (t : Bool) → le_z read (pos 0) ≡ t → lt_z (pos 0) meant ≡ not t
   alike t e = sym (ap (lt_z (pos 0)) read_is) ∙ lt_z_not_le_z read (pos 0) ∙ ap not e
 
-returns-3 : tie.Need-returns-3
+returns-3 : tie.Need-returns-then-s-le0
 returns-3 c =
     let s = start c.before in
-    still s (counts-not-alike (x s) (to s) (p s) (lo s + k s) (alike c.before true c.if3.true))
+    still s (counts-not-alike (x s) (to s) (p s) (lo s + k s) (alike c.before true c.if-s-le0.true))
 
-cast-c : tie.Need-overflow-cast-c
+cast-c : tie.Need-overflow_cast-c
 cast-c c =
     let r = c.before in
-    let above : lt_z (pos 0) (read r) ≡ true = lt_z_not_le_z (read r) (pos 0) ∙ ap not c.if3.false in
+    let above : lt_z (pos 0) (read r) ≡ true = lt_z_not_le_z (read r) (pos 0) ∙ ap not c.if-s-le0.false in
     (yes_non_neg {z = read r} (omega line), record { fits = omega (arith, (small r).within) })
 
-is-better-requires : tie.Need-is-better-requires
+is-better-requires : tie.Need-is_better-requires
 is-better-requires c κs =
     let s = start c.before in
-    (bounded s, (omega (arith, (small c.before).within), s.pre.1.1.1.0))
+    record { small = bounded s; c_bound = (omega (arith, (small c.before).within), s.requires.d_bound) }
 
-add-t15 : tie.Need-overflow-add-t15
+add-t15 : tie.Need-overflow_add-result
 add-t15 c = omega arith
 
 -- it counts, and its sums are those of the code
-module _ (e : tie.Else3) where
+module _ (e : tie.Else-s-le0) where
   abbrev s : tie.Start
   s = start e.before
 
   counted : counts (x s) (to s) (p s) (lo s + k s) ≡ true
   counted =
-      let inside = subst (λ (q : ℕ). q + 60 ≤ 386) s.pre.1.0 e.before.before.before.if1.left in
-      let above : 0 < s.args.d = omega (arith, e.before.before.if2.left) in
-      counts_all (x s) (to s) (p s) (lo s + k s) inside (alike e.before false e.if3.left) (loud s true (lt-ltb 0 s.args.d above))
+      let inside = subst (λ (q : ℕ). q + 60 ≤ 386) s.requires.q_value e.before.before.before.if-q-gt-SIGNAL_SIZE.left in
+      let above : 0 < s.args.d = omega (arith, e.before.before.if-d-eq0.left) in
+      counts_all (x s) (to s) (p s) (lo s + k s) inside (alike e.before false e.if-s-le0.left) (loud s true (lt-ltb 0 s.args.d above))
 
   is_c : nat_abs (read e.before) ≡ c (x s) (to s) (p s) (lo s + k s)
   is_c = ap nat_abs (read_is e.before)
 
   is-d : s.args.d ≡ d (x s) (to s) (p s) (lo s + k s)
-  is-d = ap nat_abs s.pre.1.1.0
+  is-d = ap nat_abs s.requires.d_value
 
-returns-4 : tie.Need-returns-4
+returns-4 : tie.Need-returns-then-is_better
 returns-4 c =
     let e = c.before.before in
     let t = s e in
-    let better = sym c.before.is-better.ensures ∙ c.if4.true in (
-      leads_beaten (x t) (to t) (p t) (lo t) (k t) (counted e) (is_c e) (is-d e) (best t) (leads t) better,
-      record { first = omega (arith, (small e.before).within); second = t.pre.1.1.1.0 },
-    )
+    let better = sym c.before.is_better.ensures ∙ c.if-is_better.true in record { leads_2 = leads_beaten (x t) (to t) (p t) (lo t) (k t) (counted e) (is_c e) (is-d e) (best t) (leads t) better; small_2 = record { first = omega (arith, (small e.before).within); second = t.requires.d_bound } }
 
-returns-5 : tie.Need-returns-5
+returns-5 : tie.Need-returns-else-is_better
 returns-5 c =
     let e = c.before.before in
     let t = s e in
-    let worse = sym c.before.is-better.ensures ∙ c.if4.false in
-    (leads_unbeaten (x t) (to t) (p t) (lo t) (k t) (counted e) (is_c e) (is-d e) (best t) (leads t) worse, bounded t)
+    let worse = sym c.before.is_better.ensures ∙ c.if-is_better.false in
+    record { leads_2 = leads_unbeaten (x t) (to t) (p t) (lo t) (k t) (counted e) (is_c e) (is-d e) (best t) (leads t) worse; small_2 = bounded t }
 
-pub offered-spec : {M : Type 1} → statement M
-offered-spec =
+pub offered_spec : {M : Type 1} → statement M
+offered_spec =
     tie.close
     (tie.spec
     add-if1

@@ -16,5 +16,5 @@ returns c =
     let b = s.args.b in
     square_times_lem (2 ^ 36) (2 ^ 37) a b s.requires.0 s.requires.1 tt c.before.product.ensures c.times.ensures
 
-pub square-times-spec : {M : Type 1} → statement M
-square-times-spec = tie.close (tie.spec product-requires times-requires returns)
+pub square_times_spec : {M : Type 1} → statement M
+square_times_spec = tie.close (tie.spec product-requires times-requires returns)

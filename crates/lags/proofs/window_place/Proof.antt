@@ -7,30 +7,30 @@ use Rattle.lags.specs.declared.Direction.{Direction}
 use Rattle.lags.proofs.window_place.Statement.{statement}
 use Rattle.lags.proofs.window_place.Tie as tie
 
-enum_told : tie.Need-enum-told
+enum_told : tie.Need-enum_told-1
 enum_told c = search rules
 
-add-result : tie.Need-overflow-add-result
+add-result : tie.Need-overflow_add-result
 add-result c = search rules
 
-enum-told-2 : tie.Need-enum-told-2
+enum-told-2 : tie.Need-enum_told-in-Backward
 enum-told-2 c = search rules
 
-cast-result : tie.Need-overflow-cast-result
+cast-result : tie.Need-overflow_cast-result-then-m-p
 cast-result c = search rules
 
-returns : tie.Need-returns
-returns c = let a = c.before.before.args in sym (ap (λ (to : Direction). window to a.p a.m) c.enum_told.given.1)
+returns : tie.Need-returns-in-Forward
+returns c = let a = c.before.before.args in sym (ap (λ (to : Direction). window to a.p a.m) c.enum_told-1.given.1)
 
-returns-2 : tie.Need-returns-2
-returns-2 c = let a = c.before.before.before.args in sym (ap (λ (to : Direction). window to a.p a.m) c.before.enum-told2.given.1)
+returns-2 : tie.Need-returns-then-m-p
+returns-2 c = let a = c.before.before.before.args in sym (ap (λ (to : Direction). window to a.p a.m) c.before.enum_told-in-Backward-1.given.1)
 
-returns-3 : tie.Need-returns-3
+returns-3 : tie.Need-returns-else-m-p
 returns-3 c =
     let a = c.before.before.before.args in
-    let none : 0 ≡ a.p - a.m = omega (arith, c.if1.false) in
-    none ∙ sym (ap (λ (to : Direction). window to a.p a.m) c.before.enum-told2.given.1)
+    let none : 0 ≡ a.p - a.m = omega (arith, c.if-m-p.false) in
+    none ∙ sym (ap (λ (to : Direction). window to a.p a.m) c.before.enum_told-in-Backward-1.given.1)
 
-pub window-place-spec : {M : Type 1} → statement M
-window-place-spec =
+pub window_place_spec : {M : Type 1} → statement M
+window_place_spec =
     tie.close (tie.spec enum_told add-result enum-told-2 cast-result returns returns-2 returns-3)

@@ -10,61 +10,61 @@ use Rattle.layout.proofs.Places.{block_place-bound}
 use Rattle.layout.proofs.block_place.Statement.{statement}
 use Rattle.layout.proofs.block_place.Tie as tie
 
-enum_told : tie.Need-enum-told
+enum_told : tie.Need-enum_told-1
 enum_told c = search rules
 
-enum-told-2 : tie.Need-enum-told-2
+enum-told-2 : tie.Need-enum_told-in-Low
 enum-told-2 c = search rules
 
-enum-told-3 : tie.Need-enum-told-3
+enum-told-3 : tie.Need-enum_told-in-Zero
 enum-told-3 c = search rules
 
-enum-told-4 : tie.Need-enum-told-4
+enum-told-4 : tie.Need-enum_told-in-One
 enum-told-4 c = search rules
 
-enum-told-5 : tie.Need-enum-told-5
+enum-told-5 : tie.Need-enum_told-in-Two
 enum-told-5 c = search rules
 
-enum-told-6 : tie.Need-enum-told-6
+enum-told-6 : tie.Need-enum_told-in-Three
 enum-told-6 c = search rules
 
 -- what the two matches tell
-module _ (c : tie.At-match2-branch) where
+module _ (c : tie.Joined-s) where
   abbrev rate : Rate
   rate = c.before.before.args.rate
 
   abbrev s : Subframe
   s = c.before.before.args.s
 
-  size_is : c.before.match.size ≡ block_size rate
+  size_is : c.before.match-rate.size ≡ block_size rate
   size_is =
       ⊎_elim (λ w. w.2 ∙ sym (ap block_size w.1.given.1)) (λ w. w.2 ∙ sym (ap block_size w.1.given.1))
-      c.before.match.branch
+      c.before.match-rate.branch
 
-  ordinal-is : c.match2.ordinal ≡ ordinal s
+  ordinal-is : c.match-s.ordinal ≡ ordinal s
   ordinal-is =
       ⊎_elim (λ w. w.2 ∙ sym (ap ordinal w.1.given.1))
       (⊎_elim (λ w. w.2 ∙ sym (ap ordinal w.1.given.1))
       (⊎_elim (λ w. w.2 ∙ sym (ap ordinal w.1.given.1)) (λ w. w.2 ∙ sym (ap ordinal w.1.given.1))))
-      c.match2.branch
+      c.match-s.branch
 
-  place_is : 4 + c.match2.ordinal * c.before.match.size ≡ block_place rate s
+  place_is : 4 + c.match-s.ordinal * c.before.match-rate.size ≡ block_place rate s
   place_is = λ i. 4 + ordinal-is i * size_is i
 
-  place-small : 4 + c.match2.ordinal * c.before.match.size ≤ 397
+  place-small : 4 + c.match-s.ordinal * c.before.match-rate.size ≤ 397
   place-small = omega (arith, place_is, block_place-bound rate s)
 
-mul-result : tie.Need-overflow-mul-result
+mul-result : tie.Need-overflow_mul-result
 mul-result c = omega (arith, place-small c.before.before)
 
-add-result : tie.Need-overflow-add-result
+add-result : tie.Need-overflow_add-result
 add-result c = omega (arith, place-small c.before.before)
 
 returns : tie.Need-returns
 returns c = place_is c.before.before
 
-pub block-place-spec : {M : Type 1} → statement M
-block-place-spec =
+pub block_place_spec : {M : Type 1} → statement M
+block_place_spec =
     tie.close
     (tie.spec
     enum_told

@@ -10,51 +10,51 @@ use Rattle.lines.proofs.Newlines.{line_of, push_next, push_kept, push_over, push
 use Rattle.lines.proofs.append.Statement.{statement}
 use Rattle.lines.proofs.append.Tie as tie
 
-abbrev invariant-loop : tie.invariant-loop
+abbrev invariant-loop : tie.invariant-loop-i
 invariant-loop part text₀ len₀ over₀ i₀ text len over i =
     (i ≤ length part) × (pushed_all (line_of text₀ len₀ over₀) part ≡ pushed_all (line_of text len over) (drop i part))
 
-abbrev decreases-loop : tie.decreases-loop
+abbrev decreases-loop : tie.decreases-loop-i
 decreases-loop part text₀ len₀ over₀ i₀ text len over i = length part - i
 
-loop-holds : tie.Need-loop-init invariant-loop decreases-loop
+loop-holds : tie.Need-loop-i-init invariant-loop decreases-loop
 loop-holds c = (omega arith, refl)
 
-shared-slice-read-text : tie.Need-shared-slice-read-text invariant-loop decreases-loop
+shared-slice-read-text : tie.Need-bounds-part-i invariant-loop decreases-loop
 shared-slice-read-text c = search rules
 
-array-write-text : tie.Need-array-write-text invariant-loop decreases-loop
+array-write-text : tie.Need-bounds-text-len invariant-loop decreases-loop
 array-write-text c = search rules
 
-add-len : tie.Need-overflow-add-len invariant-loop decreases-loop
+add-len : tie.Need-overflow_add-len invariant-loop decreases-loop
 add-len c = search rules
 
-add-i : tie.Need-overflow-add-i invariant-loop decreases-loop
+add-i : tie.Need-overflow_add-i invariant-loop decreases-loop
 add-i c = search rules
 
-loop-less : tie.Need-loop-smaller invariant-loop decreases-loop
+loop-less : tie.Need-loop-i-smaller invariant-loop decreases-loop
 loop-less c = search rules
 
-loop-again : tie.Need-loop-preserved invariant-loop decreases-loop
+loop-again : tie.Need-loop-i-preserved invariant-loop decreases-loop
 loop-again c =
     let l = c.before.before in
     let xs = l.before.before.args.part.now in
-    let i = l.loop.i in
-    let now = line_of l.loop.text l.loop.len l.loop.over in
-    let next = line_of c.if1.text c.if1.len c.if1.over in
+    let i = l.loop-i.i in
+    let now = line_of l.loop-i.text-1 l.loop-i.len l.loop-i.over in
+    let next = line_of c.if-len-lt-LINE_MAX.text-1 c.if-len-lt-LINE_MAX.len c.if-len-lt-LINE_MAX.over in
     let e : pushed now (get_or xs i 0) ≡ next =
-    ⊎_elim (λ w. push_kept l.loop.text l.loop.len l.loop.over (get_or xs i 0) w.0.taken ∙ (λ k. line_of (sym w.2 k) (sym w.3 k) (sym w.4 k)))
-    (λ w. push_over l.loop.text l.loop.len l.loop.over (get_or xs i 0) w.0.left ∙ (λ k. line_of (sym w.1 k) (sym w.2 k) (sym w.3 k)))
-    c.if1.branch in
-    (omega arith, l.loop.invariant.1 ∙ push_next now xs i (omega arith) ∙ ap (λ (m : Line). pushed_all m (drop (i + 1) xs)) e)
+    ⊎_elim (λ w. push_kept l.loop-i.text-1 l.loop-i.len l.loop-i.over (get_or xs i 0) w.0.taken ∙ (λ k. line_of (sym w.2 k) (sym w.3 k) (sym w.4 k)))
+    (λ w. push_over l.loop-i.text-1 l.loop-i.len l.loop-i.over (get_or xs i 0) w.0.left ∙ (λ k. line_of (sym w.1 k) (sym w.2 k) (sym w.3 k)))
+    c.if-len-lt-LINE_MAX.branch in
+    (omega arith, l.loop-i.invariant.1 ∙ push_next now xs i (omega arith) ∙ ap (λ (m : Line). pushed_all m (drop (i + 1) xs)) e)
 
 returns : tie.Need-returns invariant-loop decreases-loop
 returns c =
     let l = c.before in
-    sym (l.loop.invariant.1 ∙ push_none (line_of l.loop.text l.loop.len l.loop.over) l.before.before.args.part.now l.loop.i (omega arith))
+    sym (l.loop-i.invariant.1 ∙ push_none (line_of l.loop-i.text-1 l.loop-i.len l.loop-i.over) l.before.before.args.part.now l.loop-i.i (omega arith))
 
-pub append-spec : {M : Type 1} → statement M
-append-spec =
+pub append_spec : {M : Type 1} → statement M
+append_spec =
     tie.close
     (tie.spec
     invariant-loop

@@ -5,5 +5,5 @@ use Rattle.lines.proofs.blank_line.Tie as tie
 returns : tie.Need-returns
 returns c = refl
 
-pub blank-line-spec : {M : Type 1} → statement M
-blank-line-spec = tie.close (tie.spec returns)
+pub blank_line_spec : {M : Type 1} → statement M
+blank_line_spec = tie.close (tie.spec returns)

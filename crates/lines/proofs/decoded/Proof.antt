@@ -4,16 +4,16 @@ use borrow.Author.Rules.{rules}
 use Rattle.lines.proofs.decoded.Statement.{statement}
 use Rattle.lines.proofs.decoded.Tie as tie
 
-slice-aggregate-decode : tie.Need-slice-aggregate-decode
+slice-aggregate-decode : tie.Need-slice_bounds-decode-end
 slice-aggregate-decode c = search rules
 
-decode-requires : tie.Need-decode-requires
+decode-requires : tie.Need-decode-a-requires
 decode-requires c κs = tt
 
-verdict-number-requires : tie.Need-verdict-number-requires
+verdict-number-requires : tie.Need-verdict_number-n-requires
 verdict-number-requires c κs = tt
 
-answer-text-requires : tie.Need-answer-text-requires
+answer-text-requires : tie.Need-answer_text-text-requires
 answer-text-requires c κs = tt
 
 returns : tie.Need-returns
@@ -21,11 +21,11 @@ returns c =
     let v = c.before in
     let d = v.before.before.before in
     let a = d.before.before.before.args in
-    record_reply_lem a.given a.bytes.now d.decode.result v.verdict-number.result _ c.answer-text.result
-    d.decode.ensures.0 (v.verdict-number.ensures ∙ d.decode.ensures.1.0) d.decode.ensures.1.1 c.answer-text.ensures
+    record_reply_lem a.given a.bytes.now d.decode-a.result v.verdict_number-n.result _ c.answer_text-text.result
+    d.decode-a.ensures.answer (v.verdict_number-n.ensures ∙ d.decode-a.ensures.number) d.decode-a.ensures.samples c.answer_text-text.ensures
 
-pub decoded-spec : {M : Type 1} → statement M
-decoded-spec =
+pub decoded_spec : {M : Type 1} → statement M
+decoded_spec =
     tie.close
     (tie.spec
     slice-aggregate-decode

@@ -7,25 +7,25 @@ use Rattle.lines.specs.Parts.{text_reply}
 use Rattle.lines.proofs.front_reply.Statement.{statement}
 use Rattle.lines.proofs.front_reply.Tie as tie
 
-slice-aggregate-text-reply : tie.Need-slice-aggregate-text-reply
+slice-aggregate-text-reply : tie.Need-slice_bounds-text_reply-end
 slice-aggregate-text-reply c = let a = c.before.before.before.args in sym (length-take-le a.len a.text.now (omega arith))
 
-text-reply-requires : tie.Need-text-reply-requires
+text-reply-requires : tie.Need-text_reply-requires
 text-reply-requires c κs = tt
 
-returns : tie.Need-returns
-returns c = c.text-reply.ensures
+returns : tie.Need-returns-then-len-text
+returns c = c.text_reply.ensures
 
-text-reply-requires-2 : tie.Need-text-reply-requires-2
+text-reply-requires-2 : tie.Need-text_reply-requires-2
 text-reply-requires-2 c κs = tt
 
-returns-2 : tie.Need-returns-2
+returns-2 : tie.Need-returns
 returns-2 c =
     let a = c.before.before.before.args in
-    c.text-reply2.ensures ∙ ap (λ (l : List ℕ). text_reply l a.given) (sym (take_all a.len a.text.now (omega arith)))
+    c.text_reply-2.ensures ∙ ap (λ (l : List ℕ). text_reply l a.given) (sym (take_all a.len a.text.now (omega arith)))
 
-pub front-reply-spec : {M : Type 1} → statement M
-front-reply-spec =
+pub front_reply_spec : {M : Type 1} → statement M
+front_reply_spec =
     tie.close
     (tie.spec
     slice-aggregate-text-reply

@@ -9,29 +9,29 @@ use borrow.Author.Rules.{rules}
 use Rattle.lines.proofs.line_reply.Statement.{statement}
 use Rattle.lines.proofs.line_reply.Tie as tie
 
-no-record-requires : tie.Need-no-record-requires
+no-record-requires : tie.Need-no_record-requires
 no-record-requires c κs = tt
 
-returns : tie.Need-returns
+returns : tie.Need-returns-then-line
 returns c =
     let a = c.before.before.args in
-    c.no_record.ensures ∙ no_reply_of a.given (bytes_of (characters a.line)) (is_record a.line) (not_when_over a.line c.before.if1.true)
+    c.no_record.ensures ∙ no_reply_of a.given (bytes_of (characters a.line)) (is_record a.line) (not_when_over a.line c.before.if-line.true)
 
-slice-aggregate-front-reply : tie.Need-slice-aggregate-front-reply
+slice-aggregate-front-reply : tie.Need-slice_bounds-front_reply-end
 slice-aggregate-front-reply c = search rules
 
-front-reply-requires : tie.Need-front-reply-requires
+front-reply-requires : tie.Need-front_reply-requires
 front-reply-requires c κs = tt
 
-returns-2 : tie.Need-returns-2
+returns-2 : tie.Need-returns
 returns-2 c =
     let t = c.before in
     let a = t.before.before.before.args in
-    let n : length (characters a.line) ≤ 1098 = omega (arith, slice-aggregate-front-reply t, length-take a.line.len a.line.text) in
-    c.front-reply.ensures ∙ line-text a.line a.given t.before.before.if1.false n
+    let n : length (characters a.line) ≤ 1098 = omega (arith, slice-aggregate-front-reply t, length-take a.line.len a.line.text-1) in
+    c.front_reply.ensures ∙ line-text a.line a.given t.before.before.if-line.false n
 
-pub line-reply-spec : {M : Type 1} → statement M
-line-reply-spec =
+pub line_reply_spec : {M : Type 1} → statement M
+line_reply_spec =
     tie.close
     (tie.spec
     no-record-requires

@@ -9,33 +9,33 @@ use Rattle.lines.proofs.Kept.{kept-none, kept_all, kept_reply}
 use Rattle.lines.proofs.part_reply.Statement.{statement}
 use Rattle.lines.proofs.part_reply.Tie as tie
 
-is-begun-requires : tie.Need-is-begun-requires
+is-begun-requires : tie.Need-is_begun-requires
 is-begun-requires c κs = tt
 
-append-requires : tie.Need-append-requires
+append-requires : tie.Need-append-longer-requires
 append-requires c κs = tt
 
-line-reply-requires : tie.Need-line-reply-requires
+line-reply-requires : tie.Need-line_reply-requires
 line-reply-requires c κs = tt
 
-returns : tie.Need-returns
+returns : tie.Need-returns-then-is_begun
 returns c =
     let a = c.before.before.before.before.before.args in
-    c.Line-Reply.ensures ∙ ap (λ (l : Line). line_reply l a.given) c.before.append.ensures
+    c.Line-Reply.ensures ∙ ap (λ (l : Line). line_reply l a.given) c.before.append-longer.ensures
 
-text-reply-requires : tie.Need-text-reply-requires
+text-reply-requires : tie.Need-text_reply-requires
 text-reply-requires c κs = tt
 
-returns-2 : tie.Need-returns-2
+returns-2 : tie.Need-returns
 returns-2 c =
     let s = c.before.before.before.before in
     let a = s.args in
-    let n = not_begun a.line (sym c.before.before.is-begun.ensures ∙ c.before.if1.false) in
-    let k = kept_all a.line [] a.part.now (kept-none a.line (sym (length-map a.line.text (λ b. b)) ∙ s.well-formed.1.0.1.1.0.1.0.1) n.0 n.1) in
-    c.text-reply.ensures ∙ sym (kept_reply (pushed_all a.line a.part.now) a.part.now a.given k)
+    let n = not_begun a.line (sym c.before.before.is_begun.ensures ∙ c.before.if-is_begun.false) in
+    let k = kept_all a.line [] a.part.now (kept-none a.line (sym (length-map a.line.text (λ b. b)) ∙ s.well_formed.1.0.1.1.0.1.0.1) n.0 n.1) in
+    c.text_reply.ensures ∙ sym (kept_reply (pushed_all a.line a.part.now) a.part.now a.given k)
 
-pub part-reply-spec : {M : Type 1} → statement M
-part-reply-spec =
+pub part_reply_spec : {M : Type 1} → statement M
+part_reply_spec =
     tie.close
     (tie.spec
     is-begun-requires

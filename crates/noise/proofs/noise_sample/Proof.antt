@@ -7,7 +7,7 @@ use Rattle.noise.specs.Noise.{noise}
 use Rattle.noise.proofs.noise_sample.Statement.{statement}
 use Rattle.noise.proofs.noise_sample.Tie as tie
 
-cast-result : tie.Need-overflow-cast-result
+cast-result : tie.Need-overflow_cast-result
 cast-result c = search rules
 
 -- the sixteen bits, and what is left of them
@@ -26,14 +26,14 @@ module _ (c : tie.Start) where
   wide : SFits w32 (noise c.args.word)
   wide = widen fits tt
 
-sub-result : tie.Need-overflow-sub-result
+sub-result : tie.Need-overflow_sub-result
 sub-result c = need_sub (bits_is c) (is-lit w32 32768) (wide c)
 
-cast-result-2 : tie.Need-overflow-cast-result-2
+cast-result-2 : tie.Need-overflow_cast-result-2
 cast-result-2 c = need_cast (is-sub (bits_is c) (is-lit w32 32768) (wide c)) (fits c)
 
 returns : tie.Need-returns
 returns c = (is-cast (is-sub (bits_is c) (is-lit w32 32768) (wide c)) (fits c)).is
 
-pub noise-sample-spec : {M : Type 1} → statement M
-noise-sample-spec = tie.close (tie.spec cast-result sub-result cast-result-2 returns)
+pub noise_sample_spec : {M : Type 1} → statement M
+noise_sample_spec = tie.close (tie.spec cast-result sub-result cast-result-2 returns)

@@ -9,14 +9,14 @@ product-below a b h k =
     let z : a * b ≤ 4294967295 * 4294967295 = mul-le-mul x y in
     omega arith
 
-mul-result : tie.Need-overflow-mul-result
+mul-result : tie.Need-overflow_mul-result
 mul-result c = record { fits = product-below c.args.a c.args.b (search rules) (search rules) }
 
-cast-result : tie.Need-overflow-cast-result
+cast-result : tie.Need-overflow_cast-result-3
 cast-result c = search rules
 
 returns : tie.Need-returns
 returns c = search rules
 
-pub wrapping-mul-spec : {M : Type 1} → statement M
-wrapping-mul-spec = tie.close (tie.spec mul-result cast-result returns)
+pub wrapping_mul_spec : {M : Type 1} → statement M
+wrapping_mul_spec = tie.close (tie.spec mul-result cast-result returns)

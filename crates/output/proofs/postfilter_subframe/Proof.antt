@@ -60,7 +60,7 @@ use Rattle.output.proofs.postfilter_subframe.Statement as stated
 use Rattle.output.proofs.postfilter_subframe.Code as code
 
 -- at exit nothing is had of the parameters
-abbrev stayed : Stays (here.ended).signature.params (here.ended).kept
+abbrev stayed : Stays (here.ended).signature.params (here.ended).kept-1
 stayed = (stay_dropped (plain (λ _. P.the_row)) yes, both_stay 0)
 
 -- ---- the answer: its machine value, and what is known of it
@@ -145,7 +145,7 @@ module _ {M : Type 1} {𝓤 : Ura M} (𝓛 : Logic 𝓤) (at_mem : Memory → SP
 
       asked : ent 𝓤 (sep 𝓤 (A.lft (ν ∷ []) full_share)
           (sep 𝓤 (sem 𝓛 ((MutRef (named 0) (ν ∷ []) P.the_row).own_val (ref l δ) (vptr l 0 ∷ []))) (sem 𝓛 (both_own a y))))
-          (Callee.pre to-callee)
+          (Callee.requires to-callee)
       asked =
           qed 𝓛 (‵ (flft (ν ∷ []) full_share) ∷ ‵ ((MutRef (named 0) (ν ∷ []) P.the_row).own_val (ref l δ) (vptr l 0 ∷ []))
           ∷ ‵ (both_own a y) ∷ []) ∵ nothing ! $ move ! (1 ∷ 0 ∷ []) $ join ! $ move ! (1 ∷ 2 ∷ []) $ fjoin ! $
@@ -173,7 +173,7 @@ module _ {M : Type 1} {𝓤 : Ura M} (𝓛 : Logic 𝓤) (at_mem : Memory → SP
           use1 𝓛 (later (some (λ (δ : GName). ‵ ((MutRef (named 0) (ν ∷ []) P.the_row).own_val (ref l₄ δ) (vptr l₄ 0 ∷ []))
           ⊛ ‵ (flent (ν ∷ []) (Body (mem P.the_row) l₄ 0 δ))))) (lends_ref 𝓛 P.the_row (named 0) (ν ∷ []) m l₄ 0) $
           await ! tt $ pick ! (λ δ. split ! $
-          move ! (2 ∷ 0 ∷ 18 ∷ []) $ use3 𝓛 (raw (Callee.pre (to-callee l₄ ν δ))) (asked l₄ ν δ) $
+          move ! (2 ∷ 0 ∷ 18 ∷ []) $ use3 𝓛 (raw (Callee.requires (to-callee l₄ ν δ))) (asked l₄ ν δ) $
           -- [what the callee asks; the lender's part; room for _7; …; _6; …; room for _5; …; what frees _4; _3; …; _2; …]
           calls_at ! fm Callee known (to-callee l₄ ν δ) (and_then ! (load ! (from ! (stop !)) (look ! 4 refl))
           (and_then ! (load ! (from ! (stop !)) (look ! 11 refl))
@@ -222,7 +222,7 @@ module _ {M : Type 1} {𝓤 : Ura M} (𝓛 : Logic 𝓤) (at_mem : Memory → SP
       (here.clauses 𝓛 at_mem run) (WpFn 𝓤 H 𝓣.C 𝓣.Λ code.function)
       (WpFn-mono 𝓤 H 𝓛.laws 𝓣 code.function) (walks 𝓣.C 𝓣.Λ (fm_of 𝓤 H 𝓛.laws 𝓣) known)
 
-pub postfilter-subframe-spec : {M : Type 1} → stated.statement M
+pub postfilter_subframe_spec : {M : Type 1} → stated.statement M
 unfolding code.routine tables_of
 postfilter-subframe-spec 𝓤 𝓛 𝓜 𝓡 =
     let 𝓣 = tables 𝓤 𝓛.H 𝓜 𝓡 code.env in

@@ -10,87 +10,87 @@ use Rattle.pitch.proofs.Subframes.{applied-none, applied_weak, applied-mixed}
 use Rattle.pitch.proofs.applied_choice.Statement.{statement}
 use Rattle.pitch.proofs.applied_choice.Tie as tie
 
-enum_told : tie.Need-enum-told
+enum_told : tie.Need-enum_told-1
 enum_told c = search rules
 
 subframe-requires : tie.Need-subframe-requires
-subframe-requires c κs = c.before.before.requires.0
+subframe-requires c κs = c.before.before.requires.p_bound
 
-enum-known-best : tie.Need-enum-known-best
+enum-known-best : tie.Need-enum_known-best
 enum-known-best c = search rules
 
 -- the lag that was chosen, with its sums
-module _ (c : tie.After-best) where
+module _ (c : tie.In-Lag-2) where
   abbrev m : ℕ
-  m = c.best.given.0.0
+  m = c.best-1.given.0.0
 
   abbrev cn : ℕ
-  cn = c.best.given.0.1.0
+  cn = c.best-1.given.0.1.0
 
   abbrev dn : ℕ
-  dn = c.best.given.0.1.1.0
+  dn = c.best-1.given.0.1.1.0
 
   small : SmallSums cn dn
-  small = subst Small c.best.given.1 c.before.before.requires.1.0
+  small = subst Small c.best-1.given.1 c.before.before.requires.small
 
   inside : Reaches c.before.before.args.k.to c.before.before.args.p m
-  inside = let a = c.before.before.args in subst (Inside a.k.to a.p) c.best.given.1 c.before.before.requires.1.1
+  inside = let a = c.before.before.args in subst (Inside a.k.to a.p) c.best-1.given.1 c.before.before.requires.inside
 
-too-weak-requires : tie.Need-too-weak-requires
+too-weak-requires : tie.Need-too_weak-requires
 too-weak-requires c κs = (small c.before).first
 
-subframe-requires-2 : tie.Need-subframe-requires-2
-subframe-requires-2 c κs = c.before.before.before.before.before.requires.0
+subframe-requires-2 : tie.Need-subframe-requires-then-too_weak
+subframe-requires-2 c κs = c.before.before.before.before.before.requires.p_bound
 
-returns : tie.Need-returns
+returns : tie.Need-returns-then-too_weak
 returns c =
     let w = c.before.before in
     let b = w.before.before in
     let a = b.before.before.args in
-    c.subframe2.ensures
-    ∙ applied_weak a.x.now a.rate a.p a.t a.k (m b) (cn b) (dn b) b.best.given.1
-    (sym w.too-weak.ensures ∙ c.before.if1.true)
+    c.subframe-then-too_weak.ensures
+    ∙ applied_weak a.x.now a.rate a.p a.t a.k (m b) (cn b) (dn b) b.best-1.given.1
+    (sym w.too_weak.ensures ∙ c.before.if-too_weak.true)
 
-cast-window-place : tie.Need-overflow-cast-window-place
-cast-window-place c = omega (arith, c.before.before.before.before.before.requires.0)
+cast-window-place : tie.Need-overflow_cast-p
+cast-window-place c = omega (arith, c.before.before.before.before.before.requires.p_bound)
 
-cast-window-place-2 : tie.Need-overflow-cast-window-place-2
+cast-window-place-2 : tie.Need-overflow_cast-m
 cast-window-place-2 c =
     let b = c.before.before.before in
-    omega (arith, (inside b).back, b.before.before.requires.0)
+    omega (arith, (inside b).back, b.before.before.requires.p_bound)
 
-window-place-requires : tie.Need-window-place-requires
+window-place-requires : tie.Need-window_place-q-requires
 window-place-requires c κs = tt
 
-weight-q15-requires : tie.Need-weight-q15-requires
+weight-q15-requires : tie.Need-weight_q15-w-requires
 weight-q15-requires c κs = (small c.before.before.before.before).first
 
-mixed-subframe-requires : tie.Need-mixed-subframe-requires
+mixed-subframe-requires : tie.Need-mixed_subframe-requires
 mixed-subframe-requires c κs =
     let b = c.before.before.before.before.before in
-    ((b.before.before.requires.0, subst (λ (n : ℕ). n ≤ 326) (sym c.before.window-place.ensures) (inside b).ahead), c.weight-q15.ensures.1)
+    record { p_bound = (b.before.before.requires.p_bound, subst (λ (n : ℕ). n ≤ 326) (sym c.before.window_place-q.ensures) (inside b).ahead); w_bound = c.weight_q15-w.ensures.upper_bound }
 
-levelled-subframe-requires : tie.Need-levelled-subframe-requires
-levelled-subframe-requires c κs = c.mixed-subframe.ensures.1
+levelled-subframe-requires : tie.Need-levelled_subframe-requires
+levelled-subframe-requires c κs = c.mixed_subframe.ensures.all_within
 
-returns-2 : tie.Need-returns-2
+returns-2 : tie.Need-returns-in-None
 returns-2 c =
     let a = c.before.before.before.args in
-    c.subframe.ensures ∙ applied-none a.x.now a.rate a.p a.t a.k c.before.enum_told.given.1
+    c.subframe.ensures ∙ applied-none a.x.now a.rate a.p a.t a.k c.before.enum_told-1.given.1
 
-returns-3 : tie.Need-returns-3
+returns-3 : tie.Need-returns-else-too_weak
 returns-3 c =
     let v = c.before in
     let q = v.before.before in
     let w = q.before.before in
     let b = w.before.before in
     let a = b.before.before.args in
-    c.levelled-subframe.ensures ∙ ap (λ (l : List ℤ). levelled l a.t) v.mixed-subframe.ensures.0
-    ∙ applied-mixed a.x.now a.rate a.p a.t a.k (m b) (cn b) (dn b) b.best.given.1
-    (sym w.too-weak.ensures ∙ q.before.if1.false) q.window-place.ensures v.before.weight-q15.ensures.0
+    c.levelled_subframe.ensures ∙ ap (λ (l : List ℤ). levelled l a.t) v.mixed_subframe.ensures.value
+    ∙ applied-mixed a.x.now a.rate a.p a.t a.k (m b) (cn b) (dn b) b.best-1.given.1
+    (sym w.too_weak.ensures ∙ q.before.if-too_weak.false) q.window_place-q.ensures v.before.weight_q15-w.ensures.value
 
-pub applied-choice-spec : {M : Type 1} → statement M
-applied-choice-spec =
+pub applied_choice_spec : {M : Type 1} → statement M
+applied_choice_spec =
     tie.close
     (tie.spec
     enum_told

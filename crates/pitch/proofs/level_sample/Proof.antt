@@ -28,7 +28,7 @@ module _ (c : tie.Start) where
   is-z = is-cast (is_arg c.ranges.z) (widen c.ranges.z tt)
 
   product : Within (40960 * 32768) (z *ℤ pos g)
-  product = within-mul c.requires.1 (record { within = c.requires.0 })
+  product = within-mul c.requires.within (record { within = c.requires.g_bound })
 
   sum : Within (40961 * 32768) (z *ℤ pos g +ℤ pos 16384)
   sum = within_weaken (within-add product (within_num (pos 16384))) tt
@@ -42,19 +42,19 @@ module _ (c : tie.Start) where
   result_fits : SFits w32 (level_sample g z)
   result_fits = fits-within (within-shr-by 40961 32768 (lit≤ tt) sum) tt
 
-cast-result : tie.Need-overflow-cast-result
+cast-result : tie.Need-overflow_cast-result
 cast-result c = need_cast (is_arg c.ranges.z) (widen c.ranges.z tt)
 
-cast-result-2 : tie.Need-overflow-cast-result-2
-cast-result-2 c = fits-within {B = 32768} (record { within = c.requires.0 }) tt
+cast-result-2 : tie.Need-overflow_cast-result-2
+cast-result-2 c = fits-within {B = 32768} (record { within = c.requires.g_bound }) tt
 
-mul-result : tie.Need-overflow-mul-result
+mul-result : tie.Need-overflow_mul-result
 mul-result c = need_mul (is-z c) (is-g c) (product-fits c)
 
-add-result : tie.Need-overflow-add-result
+add-result : tie.Need-overflow_add-result
 add-result c = need_add (is_mul (is-z c) (is-g c) (product-fits c)) (is-lit w64 16384) (sum_fits c)
 
-cast-result-3 : tie.Need-overflow-cast-result-3
+cast-result-3 : tie.Need-overflow_cast-result-3
 cast-result-3 c =
     let s = is-add (is_mul (is-z c) (is-g c) (product-fits c)) (is-lit w64 16384) (sum_fits c) in
     need_cast (is-shr 32768 s (sum_fits c)) (result_fits c)
@@ -64,5 +64,5 @@ returns c =
     let s = is-add (is_mul (is-z c) (is-g c) (product-fits c)) (is-lit w64 16384) (sum_fits c) in
     (is-cast {w' = w32} (is-shr 32768 s (sum_fits c)) (result_fits c)).is
 
-pub level-sample-spec : {M : Type 1} → statement M
-level-sample-spec = tie.close (tie.spec cast-result cast-result-2 mul-result add-result cast-result-3 returns)
+pub level_sample_spec : {M : Type 1} → statement M
+level_sample_spec = tie.close (tie.spec cast-result cast-result-2 mul-result add-result cast-result-3 returns)

@@ -42,19 +42,19 @@ module _ (c : tie.Start) where
   sum : Within 40960 (mixed_sample w s y)
   sum = within-add (within-fits c.ranges.s) (within-shr-by 8192 32768 (lit≤ tt) product)
 
-cast-result : tie.Need-overflow-cast-result
+cast-result : tie.Need-overflow_cast-result
 cast-result c = need_cast (is_arg c.ranges.s) (widen c.ranges.s tt)
 
-cast-result-2 : tie.Need-overflow-cast-result-2
+cast-result-2 : tie.Need-overflow_cast-result-2
 cast-result-2 c = fits-within (weight c) tt
 
-cast-result-3 : tie.Need-overflow-cast-result-3
+cast-result-3 : tie.Need-overflow_cast-result-3
 cast-result-3 c = need_cast (is_arg c.ranges.y) (widen c.ranges.y tt)
 
-mul-result : tie.Need-overflow-mul-result
+mul-result : tie.Need-overflow_mul-result
 mul-result c = need_mul (is-w c) (is_y c) (fits-within (product c) tt)
 
-add-result : tie.Need-overflow-add-result
+add-result : tie.Need-overflow_add-result
 add-result c =
     let p = fits-within (product c) tt in
     need_add (is-s c) (is-shr 32768 (is_mul (is-w c) (is_y c) p) p) (fits-within (sum c) tt)
@@ -63,7 +63,7 @@ returns : tie.Need-returns
 returns c =
     let p = fits-within (product c) tt in
     let r = is-add (is-s c) (is-shr 32768 (is_mul (is-w c) (is_y c) p) p) (fits-within (sum c) tt) in
-    (r.is, within-is r (sum c))
+    record { value = r.is; within = within-is r (sum c) }
 
-pub mixed-sample-spec : {M : Type 1} → statement M
-mixed-sample-spec = tie.close (tie.spec cast-result cast-result-2 cast-result-3 mul-result add-result returns)
+pub mixed_sample_spec : {M : Type 1} → statement M
+mixed_sample_spec = tie.close (tie.spec cast-result cast-result-2 cast-result-3 mul-result add-result returns)

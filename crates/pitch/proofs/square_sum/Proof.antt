@@ -15,20 +15,20 @@ use Rattle.pitch.proofs.square_sum.Tie as tie
 
 module _ (c : tie.Start) where
   square : Within (40960 * 40960) (c.args.z *ℤ c.args.z)
-  square = within-mul c.requires.1 c.requires.1
+  square = within-mul c.requires.within c.requires.within
 
   is-z : Is w32 (of_z w32 c.args.z) c.args.z
   is-z = is_arg c.ranges.z
 
-mul-result : tie.Need-overflow-mul-result
+mul-result : tie.Need-overflow_mul-result
 mul-result c = need_mul (is-z c) (is-z c) (fits-within (square c) tt)
 
-cast-result : tie.Need-overflow-cast-result
+cast-result : tie.Need-overflow_cast-result
 cast-result c =
     let p = is_mul (is-z c) (is-z c) (fits-within (square c) tt) in
     (subst (λ (z : ℤ). T (non_neg z)) (sym p.is) (square-natural c.args.z).0, record { fits = omega (arith, (within-is p (square c)).within) })
 
-add-result : tie.Need-overflow-add-result
+add-result : tie.Need-overflow_add-result
 add-result c =
     let p = is_mul (is-z c) (is-z c) (fits-within (square c) tt) in
     omega (arith, (within-is p (square c)).within)
@@ -38,5 +38,5 @@ returns c =
     let p = is_mul (is-z c) (is-z c) (fits-within (square c) tt) in
     ap (λ (z : ℤ). c.args.e + nat_abs z) p.is
 
-pub square-sum-spec : {M : Type 1} → statement M
-square-sum-spec = tie.close (tie.spec mul-result cast-result add-result returns)
+pub square_sum_spec : {M : Type 1} → statement M
+square_sum_spec = tie.close (tie.spec mul-result cast-result add-result returns)

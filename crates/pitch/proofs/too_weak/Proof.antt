@@ -25,7 +25,7 @@ returns c =
     let a = s.args.c in
     let fourfold =
     square_times_lem (2 ^ 36) 4 a 4 s.requires (lit≤ tt) tt t.before.product.ensures t.times.ensures ∙ mul_comm (a * a) 4 in
-    c.less.ensures ∙ (λ i. ltb (fourfold i) (c.before.product2.ensures i))
+    c.less.ensures ∙ (λ i. ltb (fourfold i) (c.before.product-2.ensures i))
 
-pub too-weak-spec : {M : Type 1} → statement M
-too-weak-spec = tie.close (tie.spec product-requires times-requires product-requires-2 less-requires returns)
+pub too_weak_spec : {M : Type 1} → statement M
+too_weak_spec = tie.close (tie.spec product-requires times-requires product-requires-2 less-requires returns)

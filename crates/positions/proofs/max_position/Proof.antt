@@ -4,17 +4,17 @@ use Rattle.positions.specs.Positions.{limit}
 use Rattle.positions.proofs.max_position.Statement.{statement}
 use Rattle.positions.proofs.max_position.Tie as tie
 
-enum_told : tie.Need-enum-told
+enum_told : tie.Need-enum_told-1
 enum_told c = search rules
 
-enum-told-2 : tie.Need-enum-told-2
+enum-told-2 : tie.Need-enum_told-in-Six
 enum-told-2 c = search rules
 
-returns : tie.Need-returns
-returns c = sym (ap limit c.enum_told.given.1)
+returns : tie.Need-returns-in-Five
+returns c = sym (ap limit c.enum_told-1.given.1)
 
-returns-2 : tie.Need-returns-2
-returns-2 c = sym (ap limit c.enum-told2.given.1)
+returns-2 : tie.Need-returns-in-Six
+returns-2 c = sym (ap limit c.enum_told-in-Six-1.given.1)
 
-pub max-position-spec : {M : Type 1} → statement M
-max-position-spec = tie.close (tie.spec enum_told enum-told-2 returns returns-2)
+pub max_position_spec : {M : Type 1} → statement M
+max_position_spec = tie.close (tie.spec enum_told enum-told-2 returns returns-2)

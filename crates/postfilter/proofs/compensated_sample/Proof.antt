@@ -16,19 +16,19 @@ fits s =
     let p = within-mul (within-shr 4 (within-fits s.ranges.k1)) (within-fits s.ranges.before) in
     (fits-within p tt, fits-within (within-sub (within-fits s.ranges.z) (within-shr 32768 p)) tt)
 
-cast-mu : tie.Need-overflow-cast-mu
+cast-mu : tie.Need-overflow_cast-mu
 cast-mu c = let f = c.ranges.k1 in need_cast (is-shr 4 (is_arg f) f) (widen (shr-fits c.args.k1 4 f) tt)
 
-cast-saturate : tie.Need-overflow-cast-saturate
+cast-saturate : tie.Need-overflow_cast-z
 cast-saturate c = search tree
 
-cast-saturate-2 : tie.Need-overflow-cast-saturate-2
+cast-saturate-2 : tie.Need-overflow_cast-before
 cast-saturate-2 c = search tree
 
-mul-saturate : tie.Need-overflow-mul-saturate
+mul-saturate : tie.Need-overflow_mul-mu
 mul-saturate c = let f = fits c in search tree depth 9
 
-sub-saturate : tie.Need-overflow-sub-saturate
+sub-saturate : tie.Need-overflow_sub-z
 sub-saturate c = let f = fits c in search tree depth 12
 
 saturate-requires : tie.Need-saturate-requires
@@ -41,10 +41,10 @@ returns c =
     let mu = is-cast (is-shr 4 (is_arg s.k1) s.k1) (widen (shr-fits c.before.args.k1 4 s.k1) tt) in
     let product = is_mul mu (is-cast (is_arg s.before) (widen s.before tt)) f.0 in
     let difference = is-sub (is-cast (is_arg s.z) (widen s.z tt)) (is-shr 32768 product f.0) f.1 in
-    back w16 c.saturate.type-inv (c.saturate.ensures ∙ ap word16 difference.is)
+    back w16 c.saturate.type_inv (c.saturate.ensures ∙ ap word16 difference.is)
 
-pub compensated-sample-spec : {M : Type 1} → statement M
-compensated-sample-spec =
+pub compensated_sample_spec : {M : Type 1} → statement M
+compensated_sample_spec =
     tie.close
     (tie.spec
     cast-mu

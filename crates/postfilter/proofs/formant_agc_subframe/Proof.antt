@@ -66,7 +66,7 @@ outs r = z_field r.out
 
 -- what is known of them, and of the memory beside them
 parts : (r : Filtered) (v : Val) → Is F.the_row r (v ∷ []) →
-    Is (Zs 60) (outs r) (z_vals (outs r)) × Is P.the_row r.pf (m_vals r.pf)
+    Is (Zs 60) (outs r) (z_vals (outs r)) × Is P.the_row r.pf-1 (m_vals r.pf-1)
 parts r v is = let g = L.owed F.the_type F'.the_laws r (v ∷ []) is in (g.0, g.1.0)
 
 module _ {M : Type 1} {𝓤 : Ura M} (𝓛 : Logic 𝓤) (at_mem : Memory → SProp 𝓤)
@@ -86,13 +86,13 @@ module _ {M : Type 1} {𝓤 : Ura M} (𝓛 : Logic 𝓤) (at_mem : Memory → SP
     abbrev Post : Val → SProp 𝓤
     Post = (walk_of 𝓛 here.ended stayed (here.clauses 𝓛 at_mem run)).post (((κ, tt), (q, tt), tt, args, at), tt)
 
-    exits : (r : Filtered) → r.out ≡ filtered m a y → r.pf ≡ postfilter_after m a y → Is (Zs 60) (outs r) (z_vals (outs r)) →
-        ent 𝓤 (sep 𝓤 (A.obs γ ((P.the_row).coded.code r.pf)) (sep 𝓤 (A.bor κ (Body (mem P.the_row) b o γ)) (A.lft κ q)))
+    exits : (r : Filtered) → r.out ≡ filtered m a y → r.pf-1 ≡ postfilter_after m a y → Is (Zs 60) (outs r) (z_vals (outs r)) →
+        ent 𝓤 (sep 𝓤 (A.obs γ ((P.the_row).coded.code r.pf-1)) (sep 𝓤 (A.bor κ (Body (mem P.the_row) b o γ)) (A.lft κ q)))
         (Post (z_val (outs r)))
     exits r out-is pf-is is =
-        qed 𝓛 (‵ (fobs γ ((P.the_row).coded.code r.pf)) ∷ ‵ (fbor κ (Body (mem P.the_row) b o γ)) ∷ ‵ (flft κ q) ∷ []) ∵
+        qed 𝓛 (‵ (fobs γ ((P.the_row).coded.code r.pf-1)) ∷ ‵ (fbor κ (Body (mem P.the_row) b o γ)) ∷ ‵ (flft κ q) ∷ []) ∵
         suffices ! _ (ends_at 𝓛 here.ended stayed (here.clauses 𝓛 at_mem run) (((κ, tt), (q, tt), tt, args, at), tt)
-        (z_val (outs r)) (outs r) (r.pf, (tt, (tt, tt))) (tt, (tt, (tt, tt)))) $ says ! (map-id r.out ∙ out-is, pf-is) $
+        (z_val (outs r)) (outs r) (r.pf-1, (tt, (tt, tt))) (tt, (tt, (tt, tt)))) $ says ! (map-id r.out ∙ out-is, pf-is) $
         nothing ! $ move ! (3 ∷ 0 ∷ []) $ join ! $ frame ! $ feq_i ! (List Val) (vptr b o ∷ []) (vptr b o ∷ []) refl $
         fjoin3 ! $ nothing ! $ nothing ! $ fjoin ! $ nothing ! $ fjoin ! $ move ! (1 ∷ 0 ∷ []) $ fjoin ! $
         owned ! (Zs 60) (Is (Zs 60)) (z_makes 𝓛 60) (outs r) _ is $ move ! (1 ∷ 0 ∷ []) $ done !
@@ -103,7 +103,7 @@ module _ {M : Type 1} {𝓤 : Ura M} (𝓛 : Logic 𝓤) (at_mem : Memory → SP
     abbrev to-callee : Callee.Ghost
     to-callee = ((tt, tt, tt, passed, (m_vals m, both_vals a y)), tt)
 
-    asked : ent 𝓤 (sep 𝓤 (sem 𝓛 ((P.the_row).own_val m (m_vals m))) (sem 𝓛 (both_own a y))) (Callee.pre to-callee)
+    asked : ent 𝓤 (sep 𝓤 (sem 𝓛 ((P.the_row).own_val m (m_vals m))) (sem 𝓛 (both_own a y))) (Callee.requires to-callee)
     asked =
         qed 𝓛 (‵ ((P.the_row).own_val m (m_vals m)) ∷ ‵ (both_own a y) ∷ []) ∵ fjoin ! $ nothing ! $ join ! $ frame ! $ done !
 
@@ -125,16 +125,16 @@ module _ {M : Type 1} {𝓤 : Ura M} (𝓛 : Logic 𝓤) (at_mem : Memory → SP
           -- [the memory's cell; what it owns; the open borrow; obs; auth; room for _5; …; _0; …; what the arrays own; true]
           assigns ! (of_opd ! (load ! (from ! (hop ! (look ! 13 refl) (stop !))) (look_raw ! 0 refl))) (from ! (stop !))
           (init ! 7 refl ((m_lawful 𝓛).typed m _ was).0) $
-          move ! (1 ∷ 17 ∷ []) $ use2 𝓛 (raw (Callee.pre to-callee)) asked $
+          move ! (1 ∷ 17 ∷ []) $ use2 𝓛 (raw (Callee.requires to-callee)) asked $
           -- [what the callee asks; the memory's cell; the open borrow; obs; auth; room for _5; …; _4; …; _3; …; _2; …]
           calls_at ! fm Callee known to-callee (and_then ! (load ! (from ! (stop !)) (look ! 7 refl))
           (and_then ! (load ! (from ! (stop !)) (look ! 11 refl))
           (and_then ! (load ! (from ! (stop !)) (look ! 9 refl)) (no_more !)))) (λ v.
           use1 𝓛 (later (some (λ (r : Filtered). (‵ ftrue ⊛ ‵ ((F.the_row).own_val r (v ∷ []))) ⊛
           some (λ (ws : Lasts callee.ended tt passed). ‵ (lasts callee.ended tt passed ws) ⊛
-          (raw (fact 𝓤 (r.out ≡ filtered m a y)) ⊛ raw (fact 𝓤 (r.pf ≡ postfilter_after m a y))))))) (id⊢ 𝓤 _) $ await ! tt $
+          (raw (fact 𝓤 (r.out ≡ filtered m a y)) ⊛ raw (fact 𝓤 (r.pf-1 ≡ postfilter_after m a y))))))) (id⊢ 𝓤 _) $ await ! tt $
           pick ! (λ r. split ! $ move ! (1 ∷ []) $ pick ! (λ ws. split ! $ drop ! $ split ! $
-          heard ! (r.out ≡ filtered m a y) (λ out-is. heard ! (r.pf ≡ postfilter_after m a y) (λ pf-is. split ! $ drop ! $
+          heard ! (r.out ≡ filtered m a y) (λ out-is. heard ! (r.pf-1 ≡ postfilter_after m a y) (λ pf-is. split ! $ drop ! $
           peeks ! F.the_row (Is F.the_row) (shows 𝓛 F.the_row) r (v ∷ []) (λ is.
           -- [what r owns; the memory's cell; the open borrow; obs; auth; room for _5; …]
           land ! (from ! (stop !)) (init ! 5 refl ((L.lawful F.the_type F'.the_laws 𝓛).typed r _ is).0) $ rewrite !
@@ -142,11 +142,11 @@ module _ {M : Type 1} {𝓤 : Ura M} (𝓛 : Logic 𝓤) (at_mem : Memory → SP
           -- [the memory's cell; the open borrow; obs; auth; _5; …; _4; …; _3; …; _2; …; _1; …; room for _0; …]
           assigns ! (of_opd ! (load ! (from ! (fld ! refl (stop !))) (look_in ! 4 (sub ! 1 refl (whole !)))))
           (from ! (hop ! (look ! 12 refl) (stop !)))
-          (store_raw ! 0 refl ((m_lawful 𝓛).typed r.pf _ (parts r v is).1).0) $
+          (store_raw ! 0 refl ((m_lawful 𝓛).typed r.pf-1 _ (parts r v is).1).0) $
           assigns ! (of_opd ! (load ! (from ! (fld ! refl (stop !))) (look_in ! 4 (sub ! 0 refl (whole !))))) (from ! (stop !))
           (init ! 14 refl ((z_lawful 𝓛 60).typed (outs r) _ (parts r v is).0).0) $
-          owned ! P.the_row (Is P.the_row) (L.makes P.the_type P'.the_plain 𝓛) r.pf _ (parts r v is).1 $
-          move ! (1 ∷ 0 ∷ []) $ closes ! tt P.the_row r.pf (m_vals r.pf) b o $ returns ! (look ! 13 refl) $
+          owned ! P.the_row (Is P.the_row) (L.makes P.the_type P'.the_plain 𝓛) r.pf-1 _ (parts r v is).1 $
+          move ! (1 ∷ 0 ∷ []) $ closes ! tt P.the_row r.pf-1 (m_vals r.pf-1) b o $ returns ! (look ! 13 refl) $
           forget ! 3 refl $ forget ! 5 refl $ forget ! 7 refl $ forget ! 9 refl $ forget ! 11 refl $ forget ! 13 refl $
           move ! (13 ∷ 14 ∷ []) $ free1 ! $ move ! (11 ∷ 12 ∷ []) $ free1 ! $ move ! (9 ∷ 10 ∷ []) $ free1 ! $
           move ! (7 ∷ 8 ∷ []) $ free1 ! $ move ! (5 ∷ 6 ∷ []) $ free1 ! $ move ! (3 ∷ 4 ∷ []) $ free1 ! $ free0 ! $
@@ -169,7 +169,7 @@ module _ {M : Type 1} {𝓤 : Ura M} (𝓛 : Logic 𝓤) (at_mem : Memory → SP
       (here.clauses 𝓛 at_mem run) (WpFn 𝓤 H 𝓣.C 𝓣.Λ code.function)
       (WpFn-mono 𝓤 H 𝓛.laws 𝓣 code.function) (walks 𝓣.C 𝓣.Λ (fm_of 𝓤 H 𝓛.laws 𝓣) known)
 
-pub formant-agc-subframe-spec : {M : Type 1} → stated.statement M
+pub formant_agc_subframe_spec : {M : Type 1} → stated.statement M
 unfolding code.routine tables_of
 formant-agc-subframe-spec 𝓤 𝓛 𝓜 𝓡 =
     let 𝓣 = tables 𝓤 𝓛.H 𝓜 𝓡 code.env in

@@ -19,22 +19,22 @@ fits s =
     let f = fits-between {w = w32} 2147483647 (towards s.args.t s.args.g) b.0 b.1 tt in
     (fits-within (within-sub (within-fits s.ranges.t) (within-fits s.ranges.g)) tt, f, widen f tt)
 
-cast-distance : tie.Need-overflow-cast-distance
+cast-distance : tie.Need-overflow_cast-distance
 cast-distance c = search tree
 
-cast-distance-2 : tie.Need-overflow-cast-distance-2
+cast-distance-2 : tie.Need-overflow_cast-distance-2
 cast-distance-2 c = search tree
 
-sub-distance : tie.Need-overflow-sub-distance
+sub-distance : tie.Need-overflow_sub-distance
 sub-distance c = let f = fits c in search tree depth 9
 
-cast-result : tie.Need-overflow-cast-result
+cast-result : tie.Need-overflow_cast-result
 cast-result c = search tree
 
-add-result : tie.Need-overflow-add-result
+add-result : tie.Need-overflow_add-result
 add-result c = let f = fits c in search tree depth 12
 
-cast-result-2 : tie.Need-overflow-cast-result-2
+cast-result-2 : tie.Need-overflow_cast-result-2
 cast-result-2 c = let f = fits c in search tree depth 12
 
 returns : tie.Need-returns
@@ -45,8 +45,8 @@ returns c =
     let g = is-cast (is_arg s.g) (widen s.g tt) in
     (is-cast (is-add g (is-shr 16 (is-sub t g f.0) f.0) (widen f.1 tt)) f.1).is
 
-pub moved-gain-spec : {M : Type 1} → statement M
-moved-gain-spec =
+pub moved_gain_spec : {M : Type 1} → statement M
+moved_gain_spec =
     tie.close
     (tie.spec
     cast-distance

@@ -16,16 +16,16 @@ fits s =
     let q = within-add p s.requires in
     (fits-within p tt, fits-within q tt, fits-within (within-add q (within_num (pos 2))) tt)
 
-cast-saturate : tie.Need-overflow-cast-saturate
+cast-saturate : tie.Need-overflow_cast-k1
 cast-saturate c = search tree
 
-mul-saturate : tie.Need-overflow-mul-saturate
+mul-saturate : tie.Need-overflow_mul-k1
 mul-saturate c = let f = fits c in search tree depth 9
 
-add-saturate : tie.Need-overflow-add-saturate
+add-saturate : tie.Need-overflow_add-k1
 add-saturate c = let f = fits c in search tree depth 9
 
-add-saturate-2 : tie.Need-overflow-add-saturate-2
+add-saturate-2 : tie.Need-overflow_add-k1-2
 add-saturate-2 c = let f = fits c in search tree depth 12
 
 saturate-requires : tie.Need-saturate-requires
@@ -37,9 +37,9 @@ returns c =
     let f = fits c.before in
     let kept = is_mul (is-lit w32 3) (is-cast (is_arg s.k1) (widen s.k1 tt)) f.0 in
     let sum = is-add (is-add kept (is_arg s.k) f.1) (is-lit w32 2) f.2 in
-    back w16 c.saturate.type-inv (c.saturate.ensures ∙ ap word16 (is-shr 4 sum f.2).is)
+    back w16 c.saturate.type_inv (c.saturate.ensures ∙ ap word16 (is-shr 4 sum f.2).is)
 
-pub smoothed-tilt-spec : {M : Type 1} → statement M
-smoothed-tilt-spec =
+pub smoothed_tilt_spec : {M : Type 1} → statement M
+smoothed_tilt_spec =
     tie.close
     (tie.spec cast-saturate mul-saturate add-saturate add-saturate-2 saturate-requires returns)

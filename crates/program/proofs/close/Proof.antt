@@ -6,31 +6,31 @@ use Rattle.program.proofs.close.Statement.{statement}
 use Rattle.program.proofs.close.Tie as tie
 
 -- those after the line that no newline ended
-tallies : (c : tie.After-finish) → c.finish.result.stream.tallies ≡ (finished c.before.args.given).stream.tallies
-tallies c = ap (λ (f : Progress). f.stream.tallies) c.finish.ensures
+tallies : (c : tie.After-finish-f) → c.finish-f.result.stream-1.tallies-1 ≡ (finished c.before.args.given).stream-1.tallies-1
+tallies c = ap (λ (f : Progress). f.stream-1.tallies-1) c.finish-f.ensures
 
-finish-requires : tie.Need-finish-requires
+finish-requires : tie.Need-finish-f-requires
 finish-requires c κs = tt
 
-slice-aggregate-write : tie.Need-slice-aggregate-write
+slice-aggregate-write : tie.Need-slice_bounds-write-end
 slice-aggregate-write c = search rules
 
 write-requires : tie.Need-write-requires
 write-requires c κs = tt
 
-closing-lines-requires : tie.Need-closing-lines-requires
+closing-lines-requires : tie.Need-closing_lines-c-requires
 closing-lines-requires c κs = tt
 
-slice-aggregate-write-2 : tie.Need-slice-aggregate-write-2
+slice-aggregate-write-2 : tie.Need-slice_bounds-write-end-then-write
 slice-aggregate-write-2 c = search rules
 
-write-requires-2 : tie.Need-write-requires-2
+write-requires-2 : tie.Need-write-requires-then-write
 write-requires-2 c κs = tt
 
-returns : tie.Need-returns
+returns : tie.Need-returns-then-write
 returns c = tallies c.before.before.before.before.before.before.before.before.before.before.before
 
-returns-2 : tie.Need-returns-2
+returns-2 : tie.Need-returns-else-write
 returns-2 c = tallies c.before.before.before.before.before.before.before
 
 pub close_spec : {M : Type 1} → statement M

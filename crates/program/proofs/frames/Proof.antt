@@ -6,30 +6,30 @@ use Rattle.program.proofs.Reached.{none_printed}
 use Rattle.program.proofs.frames.Statement.{statement}
 use Rattle.program.proofs.frames.Tie as tie
 
-start-requires : tie.Need-start-requires
+start-requires : tie.Need-start-start-requires
 start-requires c κs = tt
 
-read-all-requires : tie.Need-read-all-requires
+read-all-requires : tie.Need-read_all-t-requires
 read-all-requires c κs = tt
 
-no-tallies-requires : tie.Need-no-tallies-requires
+no-tallies-requires : tie.Need-no_tallies-requires
 no-tallies-requires c κs = tt
 
-returns : tie.Need-returns
-returns c = ([], c.no-tallies.ensures ∙ sym none_printed)
+returns : tie.Need-returns-then-not-t
+returns c = ([], c.no_tallies.ensures ∙ sym none_printed)
 
 close-requires : tie.Need-close-requires
 close-requires c κs = tt
 
-returns-2 : tie.Need-returns-2
+returns-2 : tie.Need-returns
 returns-2 c =
     let r = c.before.before.before.before in
-    let e = r.read_all.ensures in
-    let from_start = e.1 ∙ ap (λ (q : Stream). stream_after q e.0) r.before.start.ensures in
+    let e = r.read_all-t.ensures in
+    let from_start = e.1 ∙ ap (λ (q : Stream). stream_after q e.0) r.before.start-start.ensures in
     (e.0, c.close.ensures ∙ ap (λ (q : Stream). (finished q).stream.tallies) from_start)
 
-pub frames-spec : {M : Type 1} → statement M
-frames-spec =
+pub frames_spec : {M : Type 1} → statement M
+frames_spec =
     tie.close
     (tie.spec
     start-requires

@@ -3,38 +3,38 @@ use Rattle.program.proofs.Reached.{Reached, reached-start, reached-more}
 use Rattle.program.proofs.read_all.Statement.{statement}
 use Rattle.program.proofs.read_all.Tie as tie
 
-abbrev invariant-loop : tie.invariant-loop
-invariant-loop now₀ turns₀ now turns = Reached now₀.stream now.stream
+abbrev invariant-loop : tie.invariant-loop-turns
+invariant-loop now₀ turns₀ now turns = Reached now₀.stream-1 now.stream-1
 
-abbrev decreases-loop : tie.decreases-loop
+abbrev decreases-loop : tie.decreases-loop-turns
 decreases-loop now₀ turns₀ now turns = turns
 
-loop-holds : tie.Need-loop-init invariant-loop decreases-loop
+loop-holds : tie.Need-loop-turns-init invariant-loop decreases-loop
 loop-holds c = reached-start c.args.given
 
-read-piece-requires : tie.Need-read-piece-requires invariant-loop decreases-loop
+read-piece-requires : tie.Need-read_piece-next-requires invariant-loop decreases-loop
 read-piece-requires c κs = tt
 
-sub-turns : tie.Need-overflow-sub-turns invariant-loop decreases-loop
+sub-turns : tie.Need-overflow_sub-turns invariant-loop decreases-loop
 sub-turns c = search rules
 
-loop-less : tie.Need-loop-smaller invariant-loop decreases-loop
+loop-less : tie.Need-loop-turns-smaller invariant-loop decreases-loop
 loop-less c = search rules
 
-loop-again : tie.Need-loop-preserved invariant-loop decreases-loop
+loop-again : tie.Need-loop-turns-preserved invariant-loop decreases-loop
 loop-again c =
     let l = c.before.before.before.before in
-    let e = c.read-piece.ensures in
-    reached-more l.before.args.given l.loop.now.stream c.read-piece.result.stream e.0 l.loop.invariant e.1
+    let e = c.read_piece-next.ensures in
+    reached-more l.before.args.given l.loop-turns.now.stream-1 c.read_piece-next.result.stream-1 e.0 l.loop-turns.invariant e.1
 
-returns : tie.Need-returns invariant-loop decreases-loop
-returns c = c.before.before.loop.invariant
+returns : tie.Need-returns-else-now invariant-loop decreases-loop
+returns c = c.before.before.loop-turns.invariant
 
-returns-2 : tie.Need-returns-2 invariant-loop decreases-loop
-returns-2 c = c.before.loop.invariant
+returns-2 : tie.Need-returns-after-loop-turns invariant-loop decreases-loop
+returns-2 c = c.before.loop-turns.invariant
 
-pub read-all-spec : {M : Type 1} → statement M
-read-all-spec =
+pub read_all_spec : {M : Type 1} → statement M
+read_all_spec =
     tie.close
     (tie.spec
     invariant-loop

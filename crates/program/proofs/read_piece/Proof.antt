@@ -3,38 +3,38 @@ use borrow.Author.Rules.{rules}
 use Rattle.program.proofs.read_piece.Statement.{statement}
 use Rattle.program.proofs.read_piece.Tie as tie
 
-large-buffer-requires : tie.Need-large-buffer-requires
+large-buffer-requires : tie.Need-large_buffer-buf-requires
 large-buffer-requires c κs = tt
 
-slice-aggregate-read : tie.Need-slice-aggregate-read
+slice-aggregate-read : tie.Need-slice_bounds-read-end
 slice-aggregate-read c = search rules
 
-read-requires : tie.Need-read-requires
+read-requires : tie.Need-read-got-requires
 read-requires c κs = tt
 
-returns : tie.Need-returns
+returns : tie.Need-returns-then-got-le0
 returns c = reached-start c.before.before.before.before.before.args.given
 
-slice-aggregate-count : tie.Need-slice-aggregate-count
+slice-aggregate-count : tie.Need-slice_bounds-count-end
 slice-aggregate-count c = search rules
 
-count-requires : tie.Need-count-requires
+count-requires : tie.Need-count-n-requires
 count-requires c κs = tt
 
-array-share-prefix-buf : tie.Need-array-share-prefix-buf
+array-share-prefix-buf : tie.Need-slice_bounds-buf-end
 array-share-prefix-buf c = search rules
 
-slice-aggregate-piece : tie.Need-slice-aggregate-piece
+slice-aggregate-piece : tie.Need-slice_bounds-piece-end
 slice-aggregate-piece c = search rules
 
 piece-requires : tie.Need-piece-requires
 piece-requires c κs = tt
 
-returns-2 : tie.Need-returns-2
-returns-2 c = c.piece.ensures.1
+returns-2 : tie.Need-returns
+returns-2 c = c.piece.ensures.by_index
 
-pub read-piece-spec : {M : Type 1} → statement M
-read-piece-spec =
+pub read_piece_spec : {M : Type 1} → statement M
+read_piece_spec =
     tie.close
     (tie.spec
     large-buffer-requires

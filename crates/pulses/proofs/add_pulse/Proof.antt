@@ -15,67 +15,67 @@ use Rattle.pulses.proofs.Repeats.{Repeating, repeating_start, repeating_later, r
 use Rattle.pulses.proofs.add_pulse.Statement.{statement}
 use Rattle.pulses.proofs.add_pulse.Tie as tie
 
-abbrev invariant-loop : tie.invariant-loop
+abbrev invariant-loop : tie.invariant-loop-j
 invariant-loop amp p step out₀ j₀ out j = Repeating out₀ (to_z w32 amp) p step out j
 
-abbrev decreases-loop : tie.decreases-loop
+abbrev decreases-loop : tie.decreases-loop-j
 decreases-loop amp p step out₀ j₀ out j = 60 - j
 
-loop-holds : tie.Need-loop-init invariant-loop decreases-loop
-loop-holds c = repeating_start c.well-formed.0.1.0.1
+loop-holds : tie.Need-loop-j-init invariant-loop decreases-loop
+loop-holds c = repeating_start c.well_formed.0.1.0.1
 
 -- the entry is still v's, so that with the pulse it fits
-module _ (c : tie.After-out invariant-loop decreases-loop) where
-  abbrev l : tie.At-loop invariant-loop decreases-loop
+module _ (c : tie.After-out-1 invariant-loop decreases-loop) where
+  abbrev l : tie.At-loop-j invariant-loop decreases-loop
   l = c.before.before
 
   abbrev x : ℤ
-  x = entry l.loop.out l.loop.j
+  x = entry l.loop-j.out-1 l.loop-j.j
 
-  still : x ≡ entry l.before.args.v l.loop.j
-  still = repeating_later l.loop.inv l.loop.j (omega arith) c.before.loop-test.true
+  still : x ≡ entry l.before.args.v l.loop-j.j
+  still = repeating_later l.loop-j.inv l.loop-j.j (omega arith) c.before.loop-j-test.true
 
   sum_fits : SFits w32 (x +ℤ l.before.args.amp)
-  sum_fits = fits-within (within-add (subst (Within (5 * unvoiced_gain_max)) (sym still) (l.before.pre.1.0.at l.loop.j)) l.before.pre.1.1) tt
+  sum_fits = fits-within (within-add (subst (Within (5 * unvoiced_gain_max)) (sym still) (l.before.requires.all_within.at l.loop-j.j)) l.before.requires.within) tt
 
-mul-out : tie.Need-overflow-mul-out invariant-loop decreases-loop
+mul-out : tie.Need-offset_bounds-out-j invariant-loop decreases-loop
 mul-out c = omega arith
 
-array-copy-out-out : tie.Need-array-copy-out-out invariant-loop decreases-loop
-array-copy-out-out c = c.loop-test.true
+array-copy-out-out : tie.Need-bounds-out-j invariant-loop decreases-loop
+array-copy-out-out c = c.loop-j-test.true
 
-add-out : tie.Need-overflow-add-out invariant-loop decreases-loop
-add-out c = need_add (is-mag (x c) c.out.given) (is_arg (l c).before.ranges.amp) (sum_fits c)
+add-out : tie.Need-overflow_add-out invariant-loop decreases-loop
+add-out c = need_add (is-mag (x c) c.out-1.given) (is_arg (l c).before.ranges.amp) (sum_fits c)
 
-mul-out-2 : tie.Need-overflow-mul-out-2 invariant-loop decreases-loop
+mul-out-2 : tie.Need-offset_bounds-out-j-in-loop-j invariant-loop decreases-loop
 mul-out-2 c = omega arith
 
-array-set-from-out : tie.Need-array-set-from-out invariant-loop decreases-loop
-array-set-from-out c = c.before.loop-test.true
+array-set-from-out : tie.Need-bounds-out-j-in-loop-j invariant-loop decreases-loop
+array-set-from-out c = c.before.loop-j-test.true
 
-add-j : tie.Need-overflow-add-j invariant-loop decreases-loop
+add-j : tie.Need-overflow_add-j invariant-loop decreases-loop
 add-j c = omega arith
 
-loop-less : tie.Need-loop-smaller invariant-loop decreases-loop
+loop-less : tie.Need-loop-j-smaller invariant-loop decreases-loop
 loop-less c = omega arith
 
-loop-again : tie.Need-loop-preserved invariant-loop decreases-loop
+loop-again : tie.Need-loop-j-preserved invariant-loop decreases-loop
 loop-again c =
     let fits = (l c).before.ranges.amp in
     let same = sym (to_z-of_z {w = w32} fits) in
-    let e = (is-add (is-mag (x c) c.out.given) (is_arg fits) (sum_fits c)).is ∙ (λ i. still c i +ℤ same i) in
-    repeating_next (l c).loop.invariant c.before.loop-test.true (l c).before.requires.0.0 e
+    let e = (is-add (is-mag (x c) c.out-1.given) (is_arg fits) (sum_fits c)).is ∙ (λ i. still c i +ℤ same i) in
+    repeating_next (l c).loop-j.invariant c.before.loop-j-test.true (l c).before.requires.step_nonzero.0 e
 
 returns : tie.Need-returns invariant-loop decreases-loop
 returns c =
     let b = c.before in
     let a = b.before.args in
     let v = a.v in
-    repeating_end b.loop.invariant c.loop-test.false
+    repeating_end b.loop-j.invariant c.loop-j-test.false
     ∙ (λ i. tabulate (λ j. entry v j +ℤ cond (repeats a.step a.p j) (to_z-of_z {w = w32} b.before.ranges.amp i) (pos 0)) 60)
 
-pub add-pulse-spec : {M : Type 1} → statement M
-add-pulse-spec =
+pub add_pulse_spec : {M : Type 1} → statement M
+add_pulse_spec =
     tie.close
     (tie.spec
     invariant-loop

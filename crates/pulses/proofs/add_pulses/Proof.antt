@@ -19,48 +19,48 @@ use Rattle.pulses.proofs.Walks.{grid-most}
 use Rattle.pulses.proofs.add_pulses.Statement.{statement}
 use Rattle.pulses.proofs.add_pulses.Tie as tie
 
-abbrev invariant-loop : tie.invariant-loop
+abbrev invariant-loop : tie.invariant-loop-slot
 invariant-loop d found size step grid v₀ rest₀ left₀ slot₀ v rest left slot = Placing d v rest left slot
 
-abbrev decreases-loop : tie.decreases-loop
+abbrev decreases-loop : tie.decreases-loop-slot
 decreases-loop d found size step grid v₀ rest₀ left₀ slot₀ v rest left slot = 30 - slot
 
-doubled-gain-requires : tie.Need-doubled-gain-requires invariant-loop decreases-loop
+doubled-gain-requires : tie.Need-doubled_gain-size-requires invariant-loop decreases-loop
 doubled-gain-requires c κs = tt
 
-pulse-step-requires : tie.Need-pulse-step-requires invariant-loop decreases-loop
+pulse-step-requires : tie.Need-pulse_step-step-requires invariant-loop decreases-loop
 pulse-step-requires c κs = tt
 
-pulse-count-requires : tie.Need-pulse-count-requires invariant-loop decreases-loop
+pulse-count-requires : tie.Need-pulse_count-left-requires invariant-loop decreases-loop
 pulse-count-requires c κs = tt
 
-loop-holds : tie.Need-loop-init invariant-loop decreases-loop
+loop-holds : tie.Need-loop-slot-init invariant-loop decreases-loop
 loop-holds c =
     let s = c.before.before.before.before in
-    placing_start s.requires.0 s.requires.1 c.pulse-count.ensures
+    placing_start s.requires.code_bound s.requires.found_value c.pulse_count-left.ensures
 
 -- the grid bit as the code has it
-grid-is : (c : tie.Joined1 invariant-loop decreases-loop) → c.if1.grid ≡ cond c.before.before.before.args.d.grid 1 0
+grid-is : (c : tie.Joined-d invariant-loop decreases-loop) → c.if-d.grid ≡ cond c.before.before.before.args.d.grid 1 0
 grid-is c =
-    ⊎_elim (λ w. w.1 ∙ sym (ap (λ (b : Bool). cond b 1 0) w.0.taken)) (λ w. w.1 ∙ sym (ap (λ (b : Bool). cond b 1 0) w.0.left)) c.if1.branch
+    ⊎_elim (λ w. w.1 ∙ sym (ap (λ (b : Bool). cond b 1 0) w.0.taken)) (λ w. w.1 ∙ sym (ap (λ (b : Bool). cond b 1 0) w.0.left)) c.if-d.branch
 
 -- the step is none that adding it to a sample's number overflows
-step_is : (c : tie.After-pulse-step invariant-loop decreases-loop) → (0 < c.pulse-step.result) × (c.pulse-step.result < 2 ^ 32)
+step_is : (c : tie.After-pulse_step-step invariant-loop decreases-loop) → (0 < c.pulse_step-step.result) × (c.pulse_step-step.result < 2 ^ 32)
 step_is c =
     let d = c.before.before.args.d in
     let lag : d.base_lag < 2 ^ 32 = search rules in
-    rw c.pulse-step.ensures (cond_elim d.train (max d.base_lag 1) 60 (λ n. (0 < n) × (n < 2 ^ 32)) (λ t. omega arith) (λ t. omega arith))
+    rw c.pulse_step-step.ensures (cond_elim d.train (max d.base_lag 1) 60 (λ n. (0 < n) × (n < 2 ^ 32)) (λ t. omega arith) (λ t. omega arith))
 
 -- the size as the code has it, and a pulse of it
-module _ (c : tie.After-doubled-gain invariant-loop decreases-loop) where
+module _ (c : tie.After-doubled_gain-size invariant-loop decreases-loop) where
   abbrev d : Description
   d = c.before.args.d
 
   abbrev kept : ℤ
-  kept = to_z w32 (of_z w32 c.doubled-gain.result)
+  kept = to_z w32 (of_z w32 c.doubled_gain-size.result)
 
   size_is : kept ≡ pos (size d)
-  size_is = back w32 c.doubled-gain.type-inv c.doubled-gain.ensures
+  size_is = back w32 c.doubled_gain-size.type_inv c.doubled_gain-size.ensures
 
   size-within : Within unvoiced_gain_max kept
   size-within = subst (Within unvoiced_gain_max) (sym size_is) (size-most d)
@@ -69,66 +69,60 @@ module _ (c : tie.After-doubled-gain invariant-loop decreases-loop) where
   signed_is b = ap (λ (z : ℤ). signed_by z d.signs b) size_is
 
 -- where there is a pulse, one was left
-module _ (c : tie.Then2 invariant-loop decreases-loop) where
-  abbrev l : tie.At-loop invariant-loop decreases-loop
+module _ (c : tie.Then-rest-eq1 invariant-loop decreases-loop) where
+  abbrev l : tie.At-loop-slot invariant-loop decreases-loop
   l = c.before.before
 
-  counted : (1 ≤ l.loop.left) × (l.loop.left ≤ 6)
-  counted = placing_left l.before.before.before.before.before.pre.0 l.loop.inv c.if2.true
+  counted : (1 ≤ l.loop-slot.left) × (l.loop-slot.left ≤ 6)
+  counted = placing_left l.before.before.before.before.before.requires.code_bound l.loop-slot.inv c.if-rest-eq1.true
 
-sub-left : tie.Need-overflow-sub-left invariant-loop decreases-loop
+sub-left : tie.Need-overflow_sub-left invariant-loop decreases-loop
 sub-left c = (counted c).0
 
-with-sign-requires : tie.Need-with-sign-requires invariant-loop decreases-loop
-with-sign-requires c κs = (size-within (l c).before.before.before.before, omega (arith, (counted c).1))
+with-sign-requires : tie.Need-with_sign-amp-requires invariant-loop decreases-loop
+with-sign-requires c κs = record { within = size-within (l c).before.before.before.before; b_bound = omega (arith, (counted c).1) }
 
-mul-add-pulse : tie.Need-overflow-mul-add-pulse invariant-loop decreases-loop
+mul-add-pulse : tie.Need-overflow_mul-slot invariant-loop decreases-loop
 mul-add-pulse c = omega arith
 
-add-add-pulse : tie.Need-overflow-add-add-pulse invariant-loop decreases-loop
+add-add-pulse : tie.Need-overflow_add-slot invariant-loop decreases-loop
 add-add-pulse c =
     let j = c.before.before.before.before.before.before in
     omega (arith, grid-is j, grid-most j.before.before.before.args.d.grid)
 
-add-pulse-requires : tie.Need-add-pulse-requires invariant-loop decreases-loop
+add-pulse-requires : tie.Need-add_pulse-w-requires invariant-loop decreases-loop
 add-pulse-requires c κs =
     let t = c.before.before in
     let l = t.before.before in
     let g = l.before.before.before.before in
-    let amp = c.before.with-sign in (
-      step_is l.before.before.before,
-      (
-        placing_within g.before.requires.0 l.loop.invariant t.if2.true,
-        subst (Within unvoiced_gain_max) (sym (back w32 amp.type-inv amp.ensures)) (signed-most (d g).signs (l.loop.left - 1) (size-within g)),
-      ),
-    )
+    let amp = c.before.with_sign-amp in record { step_nonzero = step_is l.before.before.before; all_within = placing_within g.before.requires.code_bound l.loop-slot.invariant t.if-rest-eq1.true; within = subst (Within unvoiced_gain_max) (sym (back w32 amp.type_inv amp.ensures)) (signed-most (d g).signs (l.loop-slot.left - 1) (size-within g)) }
 
-add-slot : tie.Need-overflow-add-slot invariant-loop decreases-loop
+add-slot : tie.Need-overflow_add-slot-in-loop-slot invariant-loop decreases-loop
 add-slot c = omega arith
 
-loop-less : tie.Need-loop-smaller invariant-loop decreases-loop
+loop-less : tie.Need-loop-slot-smaller invariant-loop decreases-loop
 loop-less c = omega arith
 
-loop-again : tie.Need-loop-preserved invariant-loop decreases-loop
+loop-again : tie.Need-loop-slot-preserved invariant-loop decreases-loop
 loop-again c =
     let l = c.before.before in
     let j = l.before.before in
     let p = j.before in
     let g = p.before in
-    let h = g.before.requires.0 in
+    let h = g.before.requires.code_bound in
     ⊎_elim
     (λ w. rw (w.4, w.5)
-    (placing_hit h l.loop.invariant w.0.taken p.pulse-step.ensures (grid-is j) (back w32 w.1.ok w.1.ensures ∙ signed_is g (l.loop.left - 1)) w.3.ensures))
-    (λ w. rw (w.1, w.2) (placing_miss h l.loop.invariant w.0.left))
-    c.if2.branch
+    (placing_hit h l.loop-slot.invariant w.0.taken p.pulse_step-step.ensures (grid-is j) (back w32 w.1.ok w.1.ensures ∙ signed_is g (l.loop-slot.left - 1)) w.3.ensures))
+    (λ w. rw (w.1, w.2) (placing_miss h l.loop-slot.invariant w.0.left))
+    c.if-rest-eq1.branch
 
 returns : tie.Need-returns invariant-loop decreases-loop
 returns c =
     let b = c.before in
-    placing_end b.before.before.before.before.before.requires.0 b.loop.invariant c.loop-test.false
+    placing_end b.before.before.before.before.before.requires.code_bound b.loop-slot.invariant c.loop-slot-test.false
 
-pub add-pulses-spec : {M : Type 1} → statement M
-add-pulses-spec =
+pub add_pulses_spec : {M : Type 1} → statement M
+add_pulses_spec =
     tie.close
     (tie.spec
     invariant-loop

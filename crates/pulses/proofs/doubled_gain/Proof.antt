@@ -13,18 +13,18 @@ use Rattle.pulses.proofs.doubled_gain.Statement.{statement}
 use Rattle.pulses.proofs.doubled_gain.Tie as tie
 
 -- the gain as it is read, and widened
-module _ (c : tie.After-fixed-codebook-gain) where
+module _ (c : tie.After-fixed_codebook_gain) where
   abbrev g : ℕ
   g = get_or gains c.before.args.index 0
 
   abbrev narrow : ℕ
-  narrow = of_z w16 c.fixed-codebook-gain.result
+  narrow = of_z w16 c.fixed_codebook_gain.result
 
   read : Is w16 narrow (pos g)
-  read = is-result w16 c.fixed-codebook-gain.result c.fixed-codebook-gain.type-inv c.fixed-codebook-gain.ensures
+  read = is-result w16 c.fixed_codebook_gain.result c.fixed_codebook_gain.type_inv c.fixed_codebook_gain.ensures
 
   fits : SFits w16 (pos g)
-  fits = subst (SFits w16) c.fixed-codebook-gain.ensures (record { sfits = c.fixed-codebook-gain.type-inv })
+  fits = subst (SFits w16) c.fixed_codebook_gain.ensures (record { sfits = c.fixed_codebook_gain.type_inv })
 
   widened : Is w32 (of_z w32 (to_z w16 narrow)) (pos g)
   widened = is-cast read (widen fits tt)
@@ -32,18 +32,18 @@ module _ (c : tie.After-fixed-codebook-gain) where
   twice-fits : SFits w32 (pos (2 * g))
   twice-fits = fits-within {B = 2 * 2 ^ 15} (within-mul (within_num (pos 2)) (within-fits fits)) tt
 
-fixed-codebook-gain-requires : tie.Need-fixed-codebook-gain-requires
+fixed-codebook-gain-requires : tie.Need-fixed_codebook_gain-requires
 fixed-codebook-gain-requires c κs = tt
 
-cast-result : tie.Need-overflow-cast-result
+cast-result : tie.Need-overflow_cast-result
 cast-result c = need_cast (read c) (widen (fits c) tt)
 
-mul-result : tie.Need-overflow-mul-result
+mul-result : tie.Need-overflow_mul-result
 mul-result c = need_mul (is-lit w32 2) (widened c) (twice-fits c)
 
 returns : tie.Need-returns
 returns c = (is_mul (is-lit w32 2) (widened c) (twice-fits c)).is
 
-pub doubled-gain-spec : {M : Type 1} → statement M
-doubled-gain-spec =
+pub doubled_gain_spec : {M : Type 1} → statement M
+doubled_gain_spec =
     tie.close (tie.spec fixed-codebook-gain-requires cast-result mul-result returns)

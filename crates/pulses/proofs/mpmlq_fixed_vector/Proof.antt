@@ -5,30 +5,30 @@ use Rattle.pulses.proofs.Placing.{vector-none}
 use Rattle.pulses.proofs.mpmlq_fixed_vector.Statement.{statement}
 use Rattle.pulses.proofs.mpmlq_fixed_vector.Tie as tie
 
-fcbk-unpk-positions-requires : tie.Need-fcbk-unpk-positions-requires
+fcbk-unpk-positions-requires : tie.Need-fcbk_unpk_positions-requires
 fcbk-unpk-positions-requires c κs = tt
 
-enum-known-found : tie.Need-enum-known-found
+enum-known-found : tie.Need-enum_known-found
 enum-known-found c = search rules
 
-enum_told : tie.Need-enum-told
+enum_told : tie.Need-enum_told-1
 enum_told c = search rules
 
-returns : tie.Need-returns
+returns : tie.Need-returns-in_default
 returns c =
     let d = c.before.before.before.args.d in
-    vector-none d (read_none d.count d.code (sym c.before.before.fcbk-unpk-positions.ensures ∙ c.enum_told.given.1))
+    vector-none d (read_none d.count d.code (sym c.before.before.fcbk_unpk_positions.ensures ∙ c.enum_told-1.given.1))
 
-add-pulses-requires : tie.Need-add-pulses-requires
+add-pulses-requires : tie.Need-add_pulses-requires
 add-pulses-requires c κs =
     let d = c.before.before.before.before.args.d in
-    read_of d.count d.code c.before.found.given.0.0 (sym c.before.before.before.fcbk-unpk-positions.ensures ∙ c.before.found.given.1)
+    read_of d.count d.code c.before.found-1.given.0.0 (sym c.before.before.before.fcbk_unpk_positions.ensures ∙ c.before.found-1.given.1)
 
-returns-2 : tie.Need-returns-2
-returns-2 c = c.add-pulses.ensures
+returns-2 : tie.Need-returns
+returns-2 c = c.add_pulses.ensures
 
-pub mpmlq-fixed-vector-spec : {M : Type 1} → statement M
-mpmlq-fixed-vector-spec =
+pub mpmlq_fixed_vector_spec : {M : Type 1} → statement M
+mpmlq_fixed_vector_spec =
     tie.close
     (tie.spec
     fcbk-unpk-positions-requires

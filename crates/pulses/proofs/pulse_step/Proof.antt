@@ -6,20 +6,20 @@ use borrow.Author.Tests.{not-true, not-false}
 use Rattle.pulses.proofs.pulse_step.Statement.{statement}
 use Rattle.pulses.proofs.pulse_step.Tie as tie
 
-returns : tie.Need-returns
-returns c = let t : c.before.args.train ≡ false = not-true _ c.if1.true in rw t refl
+returns : tie.Need-returns-then-not-train
+returns c = let t : c.before.args.train ≡ false = not-true _ c.if-not-train.true in rw t refl
 
-returns-2 : tie.Need-returns-2
+returns-2 : tie.Need-returns-then-lag-eq0
 returns-2 c =
-    let t : c.before.before.args.train ≡ true = not-false _ c.before.if1.false in
-    let e : max c.before.before.args.lag 1 ≡ 1 = omega (arith, c.if2.true) in
+    let t : c.before.before.args.train ≡ true = not-false _ c.before.if-not-train.false in
+    let e : max c.before.before.args.lag 1 ≡ 1 = omega (arith, c.if-lag-eq0.true) in
     rw t (sym e)
 
-returns-3 : tie.Need-returns-3
+returns-3 : tie.Need-returns-else-lag-eq0
 returns-3 c =
-    let t : c.before.before.args.train ≡ true = not-false _ c.before.if1.false in
-    let e : max c.before.before.args.lag 1 ≡ c.before.before.args.lag = omega (arith, c.if2.false) in
+    let t : c.before.before.args.train ≡ true = not-false _ c.before.if-not-train.false in
+    let e : max c.before.before.args.lag 1 ≡ c.before.before.args.lag = omega (arith, c.if-lag-eq0.false) in
     rw t (sym e)
 
-pub pulse-step-spec : {M : Type 1} → statement M
-pulse-step-spec = tie.close (tie.spec returns returns-2 returns-3)
+pub pulse_step_spec : {M : Type 1} → statement M
+pulse_step_spec = tie.close (tie.spec returns returns-2 returns-3)

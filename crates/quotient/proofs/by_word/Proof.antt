@@ -7,42 +7,42 @@ use Rattle.quotient.proofs.Estimates.{quotient_is}
 use Rattle.quotient.proofs.by_word.Statement.{statement}
 use Rattle.quotient.proofs.by_word.Tie as tie
 
-top-shift-requires : tie.Need-top-shift-requires
+top-shift-requires : tie.Need-top_shift-s-requires
 top-shift-requires c κs = search rules
 
-shift-left-requires : tie.Need-shift-left-requires
+shift-left-requires : tie.Need-shift_left-m-requires
 shift-left-requires c κs = search rules
 
-cast-two-digits : tie.Need-overflow-cast-two-digits
+cast-two-digits : tie.Need-overflow_cast-s
 cast-two-digits c = search rules
 
-shl-two-digits : tie.Need-overflow-shl-two-digits
-shl-two-digits c = c.before.top_shift.ensures.0
+shl-two-digits : tie.Need-overflow_shl-v
+shl-two-digits c = c.before.top_shift-s.ensures.0
 
 -- neither shift loses a bit
-divisor : (c : tie.After-top-shift) → c.before.args.v * 2 ^ c.top_shift.result % 2 ^ 64 ≡ c.before.args.v * 2 ^ c.top_shift.result
-divisor c = mod-eq_of_lt c.top_shift.ensures.2
+divisor : (c : tie.After-top_shift-s) → c.before.args.v * 2 ^ c.top_shift-s.result % 2 ^ 64 ≡ c.before.args.v * 2 ^ c.top_shift-s.result
+divisor c = mod-eq_of_lt c.top_shift-s.ensures.2
 
-dividend : (c : tie.After-shift-left) → let s = c.before.before in let k = c.before.top_shift.result in (value c.shift-left.result ≡ value s.args.n * 2 ^ k) × (value c.shift-left.result < s.args.v * 2 ^ k * 2 ^ 64)
+dividend : (c : tie.After-shift_left-m) → let s = c.before.before in let k = c.before.top_shift-s.result in (value c.shift_left-m.result ≡ value s.args.n * 2 ^ k) × (value c.shift_left-m.result < s.args.v * 2 ^ k * 2 ^ 64)
 dividend c =
     let s = c.before.before in
-    let k = c.before.top_shift.result in
-    exact (2 ^ 64) (2 ^ k) (s.args.v * 2 ^ k) s.args.n.hi s.args.n.lo (value c.shift-left.result) (pow_pos k) (search rules) (mul-le-mul_right (2 ^ k) (omega (arith, s.requires))) (le_of_lt c.before.top_shift.ensures.2) c.shift-left.ensures
+    let k = c.before.top_shift-s.result in
+    exact (2 ^ 64) (2 ^ k) (s.args.v * 2 ^ k) s.args.n.hi s.args.n.lo (value c.shift_left-m.result) (pow_pos k) (search rules) (mul-le-mul_right (2 ^ k) (omega (arith, s.requires))) (le_of_lt c.before.top_shift-s.ensures.2) c.shift_left-m.ensures
 
-two-digits-requires : tie.Need-two-digits-requires
+two-digits-requires : tie.Need-two_digits-d-requires
 two-digits-requires c κs =
-    subst (λ (x : ℕ). (2 ^ 63 ≤ x) × (c.shift-left.result.hi < x)) (sym (divisor c.before))
-    (c.before.top_shift.ensures.1, high_lt (2 ^ 64) c.shift-left.result.hi c.shift-left.result.lo _ (dividend c).1)
+    subst (λ (x : ℕ). (2 ^ 63 ≤ x) × (c.shift_left-m.result.hi < x)) (sym (divisor c.before))
+    (c.before.top_shift-s.ensures.1, high_lt (2 ^ 64) c.shift_left-m.result.hi c.shift_left-m.result.lo _ (dividend c).1)
 
 returns : tie.Need-returns
 returns c =
     let d = c.before in
     let s = d.before.before in
-    quotient_is _ _ _ _ c.two_digits.ensures.0 c.two_digits.ensures.1 ∙ (λ i. (dividend d).0 i / divisor d.before i)
-    ∙ mul-div-mul_right (value s.args.n) s.args.v (pow_pos d.before.top_shift.result)
+    quotient_is _ _ _ _ c.two_digits-d.ensures.0 c.two_digits-d.ensures.1 ∙ (λ i. (dividend d).0 i / divisor d.before i)
+    ∙ mul-div-mul_right (value s.args.n) s.args.v (pow_pos d.before.top_shift-s.result)
 
-pub by-word-spec : {M : Type 1} → statement M
-by-word-spec =
+pub by_word_spec : {M : Type 1} → statement M
+by_word_spec =
     tie.close
     (tie.spec
     top-shift-requires

@@ -17,5 +17,5 @@ returns c =
     let top = leading_top 64 v c.requires c.ranges.v.fits in
     shifted-top v top.0 (count_leading_zeros 64 v) top.2 top.3 top.1
 
-pub top-shift-spec : {M : Type 1} → statement M
-top-shift-spec = tie.close (tie.spec returns)
+pub top_shift_spec : {M : Type 1} → statement M
+top_shift_spec = tie.close (tie.spec returns)

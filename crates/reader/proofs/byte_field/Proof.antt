@@ -10,7 +10,7 @@ use Rattle.reader.specs.contracts.byte_field.Key.{name}
 use Rattle.reader.proofs.byte_field.Statement.{statement}
 use Rattle.reader.proofs.byte_field.Code as code
 
-pub byte-field-spec : {M : Type 1} → statement M
+pub byte_field_spec : {M : Type 1} → statement M
 unfolding code.routine
 byte-field-spec 𝓤 𝓛 𝓜 𝓡 =
     read-placed 𝓛 _ _ (framed 𝓤 𝓛.H 𝓜 (tables 𝓤 𝓛.H 𝓜 𝓡 code.env)) _ u8 (uint_Lawful 𝓛 _).typed

@@ -74,7 +74,7 @@ module _ {M : Type 1} {𝓤 : Ura M} (𝓛 : Logic 𝓤) (C : Calls 𝓤 𝓛.H)
       keep ! (0 ∷ 2 ∷ []) $ by ! (ends_of 𝓛 p κ q s at u x
       (e ∙ (λ i. e₁ i * 65536 + e₂ i * 256 + e₃ i) ∙ code_is s.now at wt.0.1.1.0.fits)))))))))))))))))))
 
-pub code-field-spec : {M : Type 1} → statement M
+pub code_field_spec : {M : Type 1} → statement M
 unfolding code.routine
 code-field-spec 𝓤 𝓛 𝓜 𝓡 =
     kept_of 𝓛 p _ _ name _ (code.unfolded 𝓤 𝓛.H 𝓜 𝓡)

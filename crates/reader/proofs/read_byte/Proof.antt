@@ -10,7 +10,7 @@ use Rattle.reader.specs.contracts.read_byte.Key.{name}
 use Rattle.reader.proofs.read_byte.Statement.{statement}
 use Rattle.reader.proofs.read_byte.Code as code
 
-pub read-byte-spec : {M : Type 1} → statement M
+pub read_byte_spec : {M : Type 1} → statement M
 unfolding code.routine
 read-byte-spec 𝓤 𝓛 𝓜 𝓡 =
     read-lent 𝓛 _ _ (framed 𝓤 𝓛.H 𝓜 (tables 𝓤 𝓛.H 𝓜 𝓡 code.env)) _ u8 (uint_Lawful 𝓛 _).typed

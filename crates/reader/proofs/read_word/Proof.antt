@@ -10,7 +10,7 @@ use Rattle.reader.specs.contracts.read_word.Key.{name}
 use Rattle.reader.proofs.read_word.Statement.{statement}
 use Rattle.reader.proofs.read_word.Code as code
 
-pub read-word-spec : {M : Type 1} → statement M
+pub read_word_spec : {M : Type 1} → statement M
 unfolding code.routine
 read-word-spec 𝓤 𝓛 𝓜 𝓡 =
     read-lent 𝓛 _ _ (framed 𝓤 𝓛.H 𝓜 (tables 𝓤 𝓛.H 𝓜 𝓡 code.env)) _ i16 (sint_Lawful 𝓛 _).typed

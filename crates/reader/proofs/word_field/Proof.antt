@@ -10,7 +10,7 @@ use Rattle.reader.specs.contracts.word_field.Key.{name}
 use Rattle.reader.proofs.word_field.Statement.{statement}
 use Rattle.reader.proofs.word_field.Code as code
 
-pub word-field-spec : {M : Type 1} → statement M
+pub word_field_spec : {M : Type 1} → statement M
 unfolding code.routine
 word-field-spec 𝓤 𝓛 𝓜 𝓡 =
     read-placed 𝓛 _ _ (framed 𝓤 𝓛.H 𝓜 (tables 𝓤 𝓛.H 𝓜 𝓡 code.env)) _ i16 (sint_Lawful 𝓛 _).typed

@@ -10,46 +10,46 @@ use Rattle.layout.proofs.Places.{block_place-bound}
 use Rattle.record.proofs.fixed_vector.Statement.{statement}
 use Rattle.record.proofs.fixed_vector.Tie as tie
 
-enum_told : tie.Need-enum-told
+enum_told : tie.Need-enum_told-1
 enum_told c = search rules
 
-pulse-description-requires : tie.Need-pulse-description-requires
+pulse-description-requires : tie.Need-pulse_description-requires
 pulse-description-requires c κs = tt
 
-mpmlq-fixed-vector-requires : tie.Need-mpmlq-fixed-vector-requires
+mpmlq-fixed-vector-requires : tie.Need-mpmlq_fixed_vector-requires
 mpmlq-fixed-vector-requires c κs = tt
 
-enum-told-2 : tie.Need-enum-told-2
+enum-told-2 : tie.Need-enum_told-in-Low
 enum-told-2 c = search rules
 
-block-place-requires : tie.Need-block-place-requires
+block-place-requires : tie.Need-block_place-requires
 block-place-requires c κs = tt
 
-place-small : (c : tie.After-block-place) → c.block-place.result ≤ 397
-place-small c = omega (arith, c.block-place.ensures, block_place-bound Low c.before.before.before.before.args.s)
+place-small : (c : tie.After-block_place) → c.block_place.result ≤ 397
+place-small c = omega (arith, c.block_place.ensures, block_place-bound Low c.before.before.before.before.args.s)
 
-add-values-at : tie.Need-overflow-add-values-at
+add-values-at : tie.Need-overflow_add-block_place
 add-values-at c = omega (arith, place-small c)
 
-values-at-requires : tie.Need-values-at-requires
+values-at-requires : tie.Need-values_at-requires
 values-at-requires c κs = omega (arith, place-small c)
 
-returns : tie.Need-returns
+returns : tie.Need-returns-in-High
 returns c =
     let m = c.before.before in
     let a = m.before.before.before.args in
-    c.mpmlq-fixed-vector.ensures ∙ ap vector c.before.pulse-description.ensures
-    ∙ sym (ap (λ (k : Rate). fixed k a.fields.now a.s) m.enum_told.given.1)
+    c.mpmlq_fixed_vector.ensures ∙ ap vector c.before.pulse_description.ensures
+    ∙ sym (ap (λ (k : Rate). fixed k a.fields.now a.s) m.enum_told-1.given.1)
 
-returns-2 : tie.Need-returns-2
+returns-2 : tie.Need-returns-in-Low
 returns-2 c =
     let m = c.before.before in
     let a = m.before.before.before.args in
-    c.values-at.ensures ∙ (λ i. words a.fields.now (c.before.block-place.ensures i + 11) 60)
-    ∙ sym (ap (λ (k : Rate). fixed k a.fields.now a.s) m.enum-told2.given.1)
+    c.values_at.ensures ∙ (λ i. words a.fields.now (c.before.block_place.ensures i + 11) 60)
+    ∙ sym (ap (λ (k : Rate). fixed k a.fields.now a.s) m.enum_told-in-Low-1.given.1)
 
-pub fixed-vector-spec : {M : Type 1} → statement M
-fixed-vector-spec =
+pub fixed_vector_spec : {M : Type 1} → statement M
+fixed_vector_spec =
     tie.close
     (tie.spec
     enum_told

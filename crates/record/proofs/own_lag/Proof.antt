@@ -32,29 +32,29 @@ lag-is r One = refl
 lag-is r Two = ap pos (add-zero (base_lag_of r Two))
 lag-is r Three = refl
 
-base-lag-requires : tie.Need-base-lag-requires
+base-lag-requires : tie.Need-base_lag-base-requires
 base-lag-requires c κs = tt
 
-enum_told : tie.Need-enum-told
+enum_told : tie.Need-enum_told-1
 enum_told c = search rules
 
-enum-told-2 : tie.Need-enum-told-2
+enum-told-2 : tie.Need-enum_told-in-One
 enum-told-2 c = search rules
 
-byte-field-requires : tie.Need-byte-field-requires
+byte-field-requires : tie.Need-byte_field-code-requires
 byte-field-requires c κs = tt
 
-enum-told-3 : tie.Need-enum-told-3
+enum-told-3 : tie.Need-enum_told-in-Two
 enum-told-3 c = search rules
 
-enum-told-4 : tie.Need-enum-told-4
+enum-told-4 : tie.Need-enum_told-in-Three
 enum-told-4 c = search rules
 
-byte-field-requires-2 : tie.Need-byte-field-requires-2
+byte-field-requires-2 : tie.Need-byte_field-code-requires-in-Three
 byte-field-requires-2 c κs = tt
 
 -- the base lag and the step, as they are read
-module _ (c : tie.At-match-branch) where
+module _ (c : tie.Joined-s) where
   abbrev r : List ℕ
   r = c.before.before.before.args.fields.now
 
@@ -62,17 +62,17 @@ module _ (c : tie.At-match-branch) where
   s = c.before.before.before.args.s
 
   abbrev base : ℕ
-  base = c.before.base-lag.result
+  base = c.before.base_lag-base.result
 
   abbrev code : ℕ
-  code = c.match.code
+  code = c.match-s.code
 
   code_is : (code ≡ stepCode r s) × (code < 256)
   code_is =
       ⊎_elim (λ w. (w.2 ∙ sym (ap (stepCode r) w.1.given.1), omega arith))
       (⊎_elim (λ w. (w.3 ∙ w.2.ensures ∙ sym (ap (stepCode r) w.1.given.1), omega arith))
       (⊎_elim (λ w. (w.2 ∙ sym (ap (stepCode r) w.1.given.1), omega arith))
-      (λ w. (w.3 ∙ w.2.ensures ∙ sym (ap (stepCode r) w.1.given.1), omega arith)))) c.match.branch
+      (λ w. (w.3 ∙ w.2.ensures ∙ sym (ap (stepCode r) w.1.given.1), omega arith)))) c.match-s.branch
 
   base_read : Is w32 base (pos base)
   base_read = is-mag (pos base) (omega arith)
@@ -89,28 +89,28 @@ module _ (c : tie.At-match-branch) where
   sum_fits : SFits w32 (pos base +ℤ step code)
   sum_fits = let p : Within 65536 (pos base) = record { within = omega arith } in fits-within (within-add p step_small) tt
 
-cast-result : tie.Need-overflow-cast-result
+cast-result : tie.Need-overflow_cast-result
 cast-result c = record { sfits = omega arith }
 
-cast-result-2 : tie.Need-overflow-cast-result-2
+cast-result-2 : tie.Need-overflow_cast-result-2
 cast-result-2 c = record { sfits = omega (arith, code_is c) }
 
-cast-result-3 : tie.Need-overflow-cast-result-3
+cast-result-3 : tie.Need-overflow_cast-result-3
 cast-result-3 c = search rules
 
-sub-result : tie.Need-overflow-sub-result
+sub-result : tie.Need-overflow_sub-result
 sub-result c = need_sub (code_read c) (is-lit w32 1) (fits-within (step_small c) tt)
 
-add-result : tie.Need-overflow-add-result
+add-result : tie.Need-overflow_add-result
 add-result c = need_add (base_read c) (step-read c) (sum_fits c)
 
 returns : tie.Need-returns
 returns c =
-    (is-add (base_read c) (step-read c) (sum_fits c)).is ∙ (λ i. pos (c.before.base-lag.ensures i) +ℤ step ((code_is c).0 i))
+    (is-add (base_read c) (step-read c) (sum_fits c)).is ∙ (λ i. pos (c.before.base_lag-base.ensures i) +ℤ step ((code_is c).0 i))
     ∙ lag-is (r c) (s c)
 
-pub own-lag-spec : {M : Type 1} → statement M
-own-lag-spec =
+pub own_lag_spec : {M : Type 1} → statement M
+own_lag_spec =
     tie.close
     (tie.spec
     base-lag-requires

@@ -11,56 +11,56 @@ use Rattle.reader.specs.Fields.{word}
 use Rattle.record.proofs.values_at.Statement.{statement}
 use Rattle.record.proofs.values_at.Tie as tie
 
-abbrev invariant-loop : tie.invariant-loop
+abbrev invariant-loop : tie.invariant-loop-k
 invariant-loop fields at out₀ k₀ out k = Fills (λ j. word fields (at + 2 * j)) 60 out k
 
-abbrev decreases-loop : tie.decreases-loop
+abbrev decreases-loop : tie.decreases-loop-k
 decreases-loop fields at out₀ k₀ out k = 60 - k
 
-loop-holds : tie.Need-loop-init invariant-loop decreases-loop
+loop-holds : tie.Need-loop-k-init invariant-loop decreases-loop
 loop-holds c = fills_start refl
 
-mul-word-field : tie.Need-overflow-mul-word-field invariant-loop decreases-loop
+mul-word-field : tie.Need-overflow_mul-k invariant-loop decreases-loop
 mul-word-field c = omega arith
 
-add-word-field : tie.Need-overflow-add-word-field invariant-loop decreases-loop
+add-word-field : tie.Need-overflow_add-at invariant-loop decreases-loop
 add-word-field c = omega arith
 
-word-field-requires : tie.Need-word-field-requires invariant-loop decreases-loop
+word-field-requires : tie.Need-word_field-requires invariant-loop decreases-loop
 word-field-requires c κs = omega arith
 
 -- the value that a turn reads
-module _ (c : tie.After-word-field invariant-loop decreases-loop) where
-  value : Is w16 (of_z w16 c.word-field.result) c.word-field.result
-  value = is-mag c.word-field.result c.word-field.type-inv
+module _ (c : tie.After-word_field invariant-loop decreases-loop) where
+  value : Is w16 (of_z w16 c.word_field.result) c.word_field.result
+  value = is-mag c.word_field.result c.word_field.type_inv
 
-  value-fits : SFits w32 c.word-field.result
-  value-fits = widen {w = w16} (record { sfits = c.word-field.type-inv }) tt
+  value-fits : SFits w32 c.word_field.result
+  value-fits = widen {w = w16} (record { sfits = c.word_field.type_inv }) tt
 
-cast-out : tie.Need-overflow-cast-out invariant-loop decreases-loop
+cast-out : tie.Need-overflow_cast-out invariant-loop decreases-loop
 cast-out c = need_cast (value c) (value-fits c)
 
-mul-out : tie.Need-overflow-mul-out invariant-loop decreases-loop
+mul-out : tie.Need-offset_bounds-out-k invariant-loop decreases-loop
 mul-out c = omega arith
 
-array-set-from-out : tie.Need-array-set-from-out invariant-loop decreases-loop
+array-set-from-out : tie.Need-bounds-out-k invariant-loop decreases-loop
 array-set-from-out c = omega arith
 
-add-k : tie.Need-overflow-add-k invariant-loop decreases-loop
+add-k : tie.Need-overflow_add-k invariant-loop decreases-loop
 add-k c = omega arith
 
-loop-less : tie.Need-loop-smaller invariant-loop decreases-loop
+loop-less : tie.Need-loop-k-smaller invariant-loop decreases-loop
 loop-less c = omega arith
 
-loop-again : tie.Need-loop-preserved invariant-loop decreases-loop
+loop-again : tie.Need-loop-k-preserved invariant-loop decreases-loop
 loop-again c =
-    fills_next c.before.before.loop.invariant (omega arith) ((is-cast (value c) (value-fits c)).is ∙ c.word-field.ensures)
+    fills_next c.before.before.loop-k.invariant (omega arith) ((is-cast (value c) (value-fits c)).is ∙ c.word_field.ensures)
 
 returns : tie.Need-returns invariant-loop decreases-loop
-returns c = fills_end c.before.loop.invariant c.loop-test.false
+returns c = fills_end c.before.loop-k.invariant c.loop-k-test.false
 
-pub values-at-spec : {M : Type 1} → statement M
-values-at-spec =
+pub values_at_spec : {M : Type 1} → statement M
+values_at_spec =
     tie.close
     (tie.spec
     invariant-loop

@@ -6,42 +6,42 @@ use Rattle.refusals.specs.Refusals.{wrong_signs}
 use Rattle.refusals.proofs.any_signs_wrong.Statement.{statement}
 use Rattle.refusals.proofs.any_signs_wrong.Tie as tie
 
-enum_told : tie.Need-enum-told
+enum_told : tie.Need-enum_told-1
 enum_told c = search rules
 
-signs-wrong-requires : tie.Need-signs-wrong-requires
+signs-wrong-requires : tie.Need-signs_wrong-requires
 signs-wrong-requires c κs = tt
 
-signs-wrong-requires-2 : tie.Need-signs-wrong-requires-2
+signs-wrong-requires-2 : tie.Need-signs_wrong-requires-in-High
 signs-wrong-requires-2 c κs = tt
 
-signs-wrong-requires-3 : tie.Need-signs-wrong-requires-3
+signs-wrong-requires-3 : tie.Need-signs_wrong-requires-in-High-2
 signs-wrong-requires-3 c κs = tt
 
-signs-wrong-requires-4 : tie.Need-signs-wrong-requires-4
+signs-wrong-requires-4 : tie.Need-signs_wrong-requires-in-High-3
 signs-wrong-requires-4 c κs = tt
 
-in-any-requires : tie.Need-in-any-requires
+in-any-requires : tie.Need-in_any-requires
 in-any-requires c κs = tt
 
-enum-told-2 : tie.Need-enum-told-2
+enum-told-2 : tie.Need-enum_told-in-Low
 enum-told-2 c = search rules
 
-returns : tie.Need-returns
+returns : tie.Need-returns-in-High
 returns c =
     let d = c.before in
     let t = d.before in
     let o = t.before in
     let m = o.before.before in
     let a = m.before.before.before.args in
-    c.in-any.ensures ∙ (λ i. o.before.signs-wrong.ensures i || (o.signs-wrong2.ensures i || (t.signs-wrong3.ensures i || d.signs-wrong4.ensures i)))
-    ∙ sym (ap (λ (k : Rate). wrong_signs k a.fields.now) m.enum_told.given.1)
+    c.in_any.ensures ∙ (λ i. o.before.signs_wrong.ensures i || (o.signs_wrong-in-High.ensures i || (t.signs_wrong-in-High-2.ensures i || d.signs_wrong-in-High-3.ensures i)))
+    ∙ sym (ap (λ (k : Rate). wrong_signs k a.fields.now) m.enum_told-1.given.1)
 
-returns-2 : tie.Need-returns-2
-returns-2 c = let a = c.before.before.before.args in sym (ap (λ (k : Rate). wrong_signs k a.fields.now) c.enum-told2.given.1)
+returns-2 : tie.Need-returns-in-Low
+returns-2 c = let a = c.before.before.before.args in sym (ap (λ (k : Rate). wrong_signs k a.fields.now) c.enum_told-in-Low-1.given.1)
 
-pub any-signs-wrong-spec : {M : Type 1} → statement M
-any-signs-wrong-spec =
+pub any_signs_wrong_spec : {M : Type 1} → statement M
+any_signs_wrong_spec =
     tie.close
     (tie.spec
     enum_told

@@ -14,55 +14,55 @@ use Rattle.refusals.specs.Refusals.{wrong_signs_in}
 use Rattle.refusals.proofs.signs_wrong.Statement.{statement}
 use Rattle.refusals.proofs.signs_wrong.Tie as tie
 
-block-place-requires : tie.Need-block-place-requires
+block-place-requires : tie.Need-block_place-requires
 block-place-requires c κs = tt
 
-add-byte-field : tie.Need-overflow-add-byte-field
-add-byte-field c = omega (arith, c.block-place.ensures, block_place-bound High c.before.before.args.s)
+add-byte-field : tie.Need-overflow_add-block_place
+add-byte-field c = omega (arith, c.block_place.ensures, block_place-bound High c.before.before.args.s)
 
-byte-field-requires : tie.Need-byte-field-requires
+byte-field-requires : tie.Need-byte_field-signs-requires
 byte-field-requires c κs = tt
 
-enum_told : tie.Need-enum-told
+enum_told : tie.Need-enum_told-1
 enum_told c = search rules
 
-enum-told-2 : tie.Need-enum-told-2
+enum-told-2 : tie.Need-enum_told-in-One
 enum-told-2 c = search rules
 
-enum-told-3 : tie.Need-enum-told-3
+enum-told-3 : tie.Need-enum_told-in-Two
 enum-told-3 c = search rules
 
-enum-told-4 : tie.Need-enum-told-4
+enum-told-4 : tie.Need-enum_told-in-Three
 enum-told-4 c = search rules
 
 -- the test in the subframe that a match tells
-module _ (c : tie.After-byte-field) where
+module _ (c : tie.After-byte_field-signs) where
   abbrev r : List ℕ
   r = c.before.before.before.args.fields.now
 
   abbrev s : Subframe
   s = c.before.before.before.args.s
 
-  read : c.byte-field.result ≡ signs r s
-  read = c.byte-field.ensures ∙ ap (λ (n : ℕ). byte r (n + 12)) c.before.block-place.ensures
+  read : c.byte_field-signs.result ≡ signs r s
+  read = c.byte_field-signs.ensures ∙ ap (λ (n : ℕ). byte r (n + 12)) c.before.block_place.ensures
 
-  tested : {t : Subframe} → s ≡ t → leb (2 ^ pulses (count t)) c.byte-field.result ≡ wrong_signs_in r s
+  tested : {t : Subframe} → s ≡ t → leb (2 ^ pulses (count t)) c.byte_field-signs.result ≡ wrong_signs_in r s
   tested e = λ i. leb (2 ^ pulses (count (sym e i))) (read i)
 
-returns : tie.Need-returns
-returns c = tested c.before.before c.enum_told.given.1
+returns : tie.Need-returns-in-Zero
+returns c = tested c.before.before c.enum_told-1.given.1
 
-returns-2 : tie.Need-returns-2
-returns-2 c = tested c.before.before c.enum-told2.given.1
+returns-2 : tie.Need-returns-in-One
+returns-2 c = tested c.before.before c.enum_told-in-One-1.given.1
 
-returns-3 : tie.Need-returns-3
-returns-3 c = tested c.before.before c.enum-told3.given.1
+returns-3 : tie.Need-returns-in-Two
+returns-3 c = tested c.before.before c.enum_told-in-Two-1.given.1
 
-returns-4 : tie.Need-returns-4
-returns-4 c = tested c.before.before c.enum-told4.given.1
+returns-4 : tie.Need-returns-in-Three
+returns-4 c = tested c.before.before c.enum_told-in-Three-1.given.1
 
-pub signs-wrong-spec : {M : Type 1} → statement M
-signs-wrong-spec =
+pub signs_wrong_spec : {M : Type 1} → statement M
+signs_wrong_spec =
     tie.close
     (tie.spec
     block-place-requires

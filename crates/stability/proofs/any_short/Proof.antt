@@ -14,64 +14,64 @@ use Rattle.stability.proofs.Passes.{any_zero, any_step}
 use Rattle.stability.proofs.any_short.Statement.{statement}
 use Rattle.stability.proofs.any_short.Tie as tie
 
-abbrev invariant-loop : tie.invariant-loop
+abbrev invariant-loop : tie.invariant-loop-j
 invariant-loop minimum p found₀ j₀ found j = (j ≤ 9) × (found ≡ any_to (short (to_z w16 minimum) p) j)
 
-abbrev decreases-loop : tie.decreases-loop
+abbrev decreases-loop : tie.decreases-loop-j
 decreases-loop minimum p found₀ j₀ found j = 9 - j
 
-loop-holds : tie.Need-loop-init invariant-loop decreases-loop
-loop-holds c = (omega arith, sym (any_zero (short (to_z w16 (of_z w16 c.args.minimum)) c.args.t1)))
+loop-holds : tie.Need-loop-j-init invariant-loop decreases-loop
+loop-holds c = (omega arith, sym (any_zero (short (to_z w16 (of_z w16 c.args.minimum)) c.args.p)))
 
-mul-is-short : tie.Need-overflow-mul-is-short invariant-loop decreases-loop
+mul-is-short : tie.Need-offset_bounds-p-j invariant-loop decreases-loop
 mul-is-short c = omega arith
 
-array-copy-out-is-short : tie.Need-array-copy-out-is-short invariant-loop decreases-loop
+array-copy-out-is-short : tie.Need-bounds-p-j invariant-loop decreases-loop
 array-copy-out-is-short c = omega arith
 
-add-is-short : tie.Need-overflow-add-is-short invariant-loop decreases-loop
+add-is-short : tie.Need-overflow_add-j invariant-loop decreases-loop
 add-is-short c = omega arith
 
-mul-is-short-2 : tie.Need-overflow-mul-is-short-2 invariant-loop decreases-loop
+mul-is-short-2 : tie.Need-offset_bounds-p-j-else-found invariant-loop decreases-loop
 mul-is-short-2 c = omega arith
 
-array-copy-out-is-short-2 : tie.Need-array-copy-out-is-short-2 invariant-loop decreases-loop
+array-copy-out-is-short-2 : tie.Need-bounds-p-j-else-found invariant-loop decreases-loop
 array-copy-out-is-short-2 c = omega arith
 
-is-short-requires : tie.Need-is-short-requires invariant-loop decreases-loop
+is-short-requires : tie.Need-is_short-found-requires invariant-loop decreases-loop
 is-short-requires c κs = tt
 
-add-j : tie.Need-overflow-add-j invariant-loop decreases-loop
+add-j : tie.Need-overflow_add-j-in-loop-j invariant-loop decreases-loop
 add-j c = omega arith
 
-loop-less : tie.Need-loop-smaller invariant-loop decreases-loop
+loop-less : tie.Need-loop-j-smaller invariant-loop decreases-loop
 loop-less c = omega arith
 
-loop-again : tie.Need-loop-preserved invariant-loop decreases-loop
+loop-again : tie.Need-loop-j-preserved invariant-loop decreases-loop
 loop-again c =
     let b = c.before.before in
-    let j = b.loop.j in
-    let p = b.before.args.t1 in
+    let j = b.loop-j.j in
+    let p = b.before.args.p in
     let m = to_z w16 (of_z w16 b.before.args.minimum) in
     let t = short m p in (
       omega arith,
-      rw (any_step t j, sym b.loop.invariant.1)
+      rw (any_step t j, sym b.loop-j.invariant.1)
           (⊎_elim (λ w. rw w.0.taken (w.1 ∙ w.0.taken))
           (λ w. rw w.0.left (w.4 ∙ w.3.ensures ∙ (λ i. lt_z (read_back w16 (entry p (j + 1)) w.2.given i -ℤ read_back w16 (entry p j) w.1.given i) m)))
-          c.if1.branch),
+          c.if-found.branch),
     )
 
-last : (c : tie.After-loop invariant-loop decreases-loop) → c.before.loop.j ≡ 9
+last : (c : tie.After-loop-j invariant-loop decreases-loop) → c.before.loop-j.j ≡ 9
 last c = omega arith
 
 returns : tie.Need-returns invariant-loop decreases-loop
 returns c =
     let b = c.before in
     let d = to_z-of_z b.before.ranges.minimum in
-    b.loop.invariant.1 ∙ (λ i. any_to (short (d i) b.before.args.t1) (last c i))
+    b.loop-j.invariant.1 ∙ (λ i. any_to (short (d i) b.before.args.p) (last c i))
 
-pub any-short-spec : {M : Type 1} → statement M
-any-short-spec =
+pub any_short_spec : {M : Type 1} → statement M
+any_short_spec =
     tie.close
     (tie.spec
     invariant-loop

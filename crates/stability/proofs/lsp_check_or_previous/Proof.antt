@@ -9,24 +9,24 @@ use Rattle.stability.specs.Stability.{stabilised, lsps_used, check_or_previous}
 use Rattle.stability.proofs.lsp_check_or_previous.Statement.{statement}
 use Rattle.stability.proofs.lsp_check_or_previous.Tie as tie
 
-lsp-stability-requires : tie.Need-lsp-stability-requires
+lsp-stability-requires : tie.Need-lsp_stability-s-requires
 lsp-stability-requires c κs = tt
 
-enum_told : tie.Need-enum-told
+enum_told : tie.Need-enum_told-1
 enum_told c = search rules
 
-enum-told-2 : tie.Need-enum-told-2
+enum-told-2 : tie.Need-enum_told-in-Moved
 enum-told-2 c = search rules
 
-enum-told-3 : tie.Need-enum-told-3
+enum-told-3 : tie.Need-enum_told-in-Previous
 enum-told-3 c = search rules
 
-module _ (c : tie.After-lsp-stability) where
+module _ (c : tie.After-lsp_stability-s) where
   abbrev told : Stabilised
-  told = c.lsp-stability.result
+  told = c.lsp_stability-s.result
 
   answer : told ≡ stabilised c.before.args.minimum c.before.args.cand
-  answer = c.lsp-stability.ensures ∙ ap (λ (z : ℤ). stabilised z c.before.args.cand) (to_z-of_z c.before.ranges.minimum)
+  answer = c.lsp_stability-s.ensures ∙ ap (λ (z : ℤ). stabilised z c.before.args.cand) (to_z-of_z c.before.ranges.minimum)
 
   -- the LSPs that go with an outcome, where that is the one told
   chosen : (o : Outcome) → told.outcome ≡ o → let a = c.before.args in
@@ -36,16 +36,16 @@ module _ (c : tie.After-lsp-stability) where
       (λ i. record { lsps = lsps_used (sym e i) told.lsps v; outcome = told.outcome })
       ∙ (λ i. record { lsps = lsps_used (answer i).outcome (answer i).lsps v; outcome = (answer i).outcome })
 
-returns : tie.Need-returns
-returns c = chosen c.before.before Untouched c.enum_told.given.1
+returns : tie.Need-returns-in-Untouched
+returns c = chosen c.before.before Untouched c.enum_told-1.given.1
 
-returns-2 : tie.Need-returns-2
-returns-2 c = chosen c.before.before Moved c.enum-told2.given.1
+returns-2 : tie.Need-returns-in-Moved
+returns-2 c = chosen c.before.before Moved c.enum_told-in-Moved-1.given.1
 
-returns-3 : tie.Need-returns-3
-returns-3 c = chosen c.before.before Previous c.enum-told3.given.1
+returns-3 : tie.Need-returns-in-Previous
+returns-3 c = chosen c.before.before Previous c.enum_told-in-Previous-1.given.1
 
-pub lsp-check-or-previous-spec : {M : Type 1} → statement M
-lsp-check-or-previous-spec =
+pub lsp_check_or_previous_spec : {M : Type 1} → statement M
+lsp_check_or_previous_spec =
     tie.close
     (tie.spec lsp-stability-requires enum_told enum-told-2 enum-told-3 returns returns-2 returns-3)

@@ -13,70 +13,70 @@ use Rattle.stability.proofs.Turns.{Turn, turn-start, turn-next, still_end, last_
 use Rattle.stability.proofs.lsp_stability.Statement.{statement}
 use Rattle.stability.proofs.lsp_stability.Tie as tie
 
-abbrev invariant-loop : tie.invariant-loop
+abbrev invariant-loop : tie.invariant-loop-n
 invariant-loop minimum q₀ n₀ q n = Turn (to_z w16 minimum) q₀ n q
 
-abbrev decreases-loop : tie.decreases-loop
+abbrev decreases-loop : tie.decreases-loop-n
 decreases-loop minimum q₀ n₀ q n = 10 - n
 
 -- the minimum, as the code reads it
-module _ (l : tie.At-loop invariant-loop decreases-loop) where
+module _ (l : tie.At-loop-n invariant-loop decreases-loop) where
   abbrev min : ℤ
   min = to_z w16 (of_z w16 l.before.args.minimum)
 
   -- what is answered at it is the answer
   answered : {s : Stabilised} → s ≡ stabilised min l.before.args.p → s ≡ stabilised l.before.args.minimum l.before.args.p
-  answered e = e ∙ ap (λ (z : ℤ). stabilised z l.before.args.p) (to_z-of_z l.before.fits.minimum)
+  answered e = e ∙ ap (λ (z : ℤ). stabilised z l.before.args.p) (to_z-of_z l.before.ranges.minimum)
 
-loop-holds : tie.Need-loop-init invariant-loop decreases-loop
+loop-holds : tie.Need-loop-n-init invariant-loop decreases-loop
 loop-holds c = turn-start (to_z w16 (of_z w16 c.args.minimum)) c.args.p
 
-one-pass-requires : tie.Need-one-pass-requires invariant-loop decreases-loop
+one-pass-requires : tie.Need-one_pass-s-requires invariant-loop decreases-loop
 one-pass-requires c κs = tt
 
-outcome-after-requires : tie.Need-outcome-after-requires invariant-loop decreases-loop
+outcome-after-requires : tie.Need-outcome_after-requires invariant-loop decreases-loop
 outcome-after-requires c κs = tt
 
-returns : tie.Need-returns invariant-loop decreases-loop
+returns : tie.Need-returns-then-not-s invariant-loop decreases-loop
 returns c =
     let s = c.before.before.before.before in
     let l = s.before.before in
-    let still = sym s.one-pass.ensures.1 ∙ not-true _ c.before.if1.true in
+    let still = sym s.one_pass-s.ensures.moved_value ∙ not-true _ c.before.if-not-s.true in
     answered l
-    ((λ i. record { lsps = s.one-pass.ensures.0 i; outcome = c.outcome-after.ensures i })
-    ∙ still_end (min l) l.before.args.p l.loop.n l.loop.q l.loop.invariant (omega arith) still)
+    ((λ i. record { lsps = s.one_pass-s.ensures.lsps_value i; outcome = c.outcome_after.ensures i })
+    ∙ still_end (min l) l.before.args.p l.loop-n.n l.loop-n.q-1 l.loop-n.invariant (omega arith) still)
 
-add-n : tie.Need-overflow-add-n invariant-loop decreases-loop
+add-n : tie.Need-overflow_add-n invariant-loop decreases-loop
 add-n c = omega arith
 
-loop-less : tie.Need-loop-smaller invariant-loop decreases-loop
+loop-less : tie.Need-loop-n-smaller invariant-loop decreases-loop
 loop-less c = omega arith
 
-loop-again : tie.Need-loop-preserved invariant-loop decreases-loop
+loop-again : tie.Need-loop-n-preserved invariant-loop decreases-loop
 loop-again c =
     let s = c.before.before.before in
     let l = s.before.before in
-    let moved = sym s.one-pass.ensures.1 ∙ not-false _ c.if1.false in
-    subst (Turn (min l) l.before.args.p (l.loop.n + 1)) (sym s.one-pass.ensures.0)
-    (turn-next (min l) l.before.args.p l.loop.n l.loop.q l.loop.invariant (omega arith) moved)
+    let moved = sym s.one_pass-s.ensures.moved_value ∙ not-false _ c.if-not-s.false in
+    subst (Turn (min l) l.before.args.p (l.loop-n.n + 1)) (sym s.one_pass-s.ensures.lsps_value)
+    (turn-next (min l) l.before.args.p l.loop-n.n l.loop-n.q-1 l.loop-n.invariant (omega arith) moved)
 
-any-short-requires : tie.Need-any-short-requires invariant-loop decreases-loop
+any-short-requires : tie.Need-any_short-requires invariant-loop decreases-loop
 any-short-requires c κs = tt
 
-returns-2 : tie.Need-returns-2 invariant-loop decreases-loop
+returns-2 : tie.Need-returns-then-any_short invariant-loop decreases-loop
 returns-2 c =
     let l = c.before.before.before in
-    answered l (last_end (min l) l.before.args.p l.loop.n l.loop.q l.loop.invariant (omega arith)
-    (sym c.before.any-short.ensures ∙ c.if2.true))
+    answered l (last_end (min l) l.before.args.p l.loop-n.n l.loop-n.q-1 l.loop-n.invariant (omega arith)
+    (sym c.before.any_short.ensures ∙ c.if-any_short.true))
 
-returns-3 : tie.Need-returns-3 invariant-loop decreases-loop
+returns-3 : tie.Need-returns invariant-loop decreases-loop
 returns-3 c =
     let l = c.before.before.before in
-    answered l (last_end (min l) l.before.args.p l.loop.n l.loop.q l.loop.invariant (omega arith)
-    (sym c.before.any-short.ensures ∙ c.if2.false))
+    answered l (last_end (min l) l.before.args.p l.loop-n.n l.loop-n.q-1 l.loop-n.invariant (omega arith)
+    (sym c.before.any_short.ensures ∙ c.if-any_short.false))
 
-pub lsp-stability-spec : {M : Type 1} → statement M
-lsp-stability-spec =
+pub lsp_stability_spec : {M : Type 1} → statement M
+lsp_stability_spec =
     tie.close
     (tie.spec
     invariant-loop

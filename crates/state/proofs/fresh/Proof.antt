@@ -5,19 +5,19 @@ use Rattle.state.specs.State.{fresh_state}
 use Rattle.state.proofs.fresh.Statement.{statement}
 use Rattle.state.proofs.fresh.Tie as tie
 
-lsp-dc-requires : tie.Need-lsp-dc-requires
+lsp-dc-requires : tie.Need-lsp_dc-lsps-requires
 lsp-dc-requires c κs = tt
 
-fresh-postfilter-requires : tie.Need-fresh-postfilter-requires
+fresh-postfilter-requires : tie.Need-fresh_postfilter-pf-requires
 fresh-postfilter-requires c κs = tt
 
 returns : tie.Need-returns
 unfolding fresh_state
 returns c = λ i. record {
-  prev_lsp = c.before.lsp-dc.ensures i;
+  prev_lsp = c.before.lsp_dc-lsps.ensures i;
   exc_hist = replicate exc_hist_size (pos 0);
   syn_mem = replicate lpc_order (pos 0);
-  pf = c.fresh-postfilter.ensures i;
+  pf = c.fresh_postfilter-pf.ensures i;
   last_lag = pos fresh_lag;
   last_lag2 = pos fresh_lag;
   last_taps_sum_q15 = pos 0;
@@ -27,5 +27,5 @@ returns c = λ i. record {
   postfilter = c.before.before.args.postfilter;
 }
 
-pub fresh-spec : {M : Type 1} → statement M
-fresh-spec = tie.close (tie.spec lsp-dc-requires fresh-postfilter-requires returns)
+pub fresh_spec : {M : Type 1} → statement M
+fresh_spec = tie.close (tie.spec lsp-dc-requires fresh-postfilter-requires returns)

@@ -13,17 +13,17 @@ use Rattle.state.proofs.is_between.Tie as tie
 same : {x y : ℤ} → SFits w32 x → SFits w32 y → not (lt_z (to_z w32 (of_z w32 x)) (to_z w32 (of_z w32 y))) ≡ not (lt_z x y)
 same f g = ap not (is_lt (is_arg f) (is_arg g))
 
-returns : tie.Need-returns
+returns : tie.Need-returns-then-not-z-lo
 returns c =
     let a = c.before.args in
     let f = c.before.ranges in
-    same f.hi f.z ∙ and_there {a = not (lt_z a.z a.lo)} {b = not (lt_z a.hi a.z)} refl (sym (same f.z f.lo) ∙ c.if1.true) refl
+    same f.hi f.z ∙ and_there {a = not (lt_z a.z a.lo)} {b = not (lt_z a.hi a.z)} refl (sym (same f.z f.lo) ∙ c.if-not-z-lo.true) refl
 
-returns-2 : tie.Need-returns-2
+returns-2 : tie.Need-returns-else-not-z-lo
 returns-2 c =
     let a = c.before.args in
     let f = c.before.ranges in
-    c.if1.false ∙ sym (sym (same f.z f.lo) ∙ c.if1.false) ∙ and-here {a = not (lt_z a.z a.lo)} (not (lt_z a.hi a.z)) refl (sym (same f.z f.lo) ∙ c.if1.false)
+    c.if-not-z-lo.false ∙ sym (sym (same f.z f.lo) ∙ c.if-not-z-lo.false) ∙ and-here {a = not (lt_z a.z a.lo)} (not (lt_z a.hi a.z)) refl (sym (same f.z f.lo) ∙ c.if-not-z-lo.false)
 
-pub is-between-spec : {M : Type 1} → statement M
-is-between-spec = tie.close (tie.spec returns returns-2)
+pub is_between_spec : {M : Type 1} → statement M
+is_between_spec = tie.close (tie.spec returns returns-2)

@@ -12,19 +12,19 @@ use Rattle.integers.specs.Truth.{and-regroup, and-here, and_there}
 use Rattle.state.proofs.numbers_in_bounds.Statement.{statement}
 use Rattle.state.proofs.numbers_in_bounds.Tie as tie
 
-is-between-requires : tie.Need-is-between-requires
+is-between-requires : tie.Need-is_between-requires
 is-between-requires c κs = tt
 
-is-between-requires-2 : tie.Need-is-between-requires-2
+is-between-requires-2 : tie.Need-is_between-requires-then-is_between
 is-between-requires-2 c κs = tt
 
-is-between-requires-3 : tie.Need-is-between-requires-3
+is-between-requires-3 : tie.Need-is_between-requires-then-is_between-2
 is-between-requires-3 c κs = tt
 
-is-between-requires-4 : tie.Need-is-between-requires-4
+is-between-requires-4 : tie.Need-is_between-requires-then-is_between-3
 is-between-requires-4 c κs = tt
 
-is-between-requires-5 : tie.Need-is-between-requires-5
+is-between-requires-5 : tie.Need-is_between-requires-then-is_between-4
 is-between-requires-5 c κs = tt
 
 -- the k-th number, and its test
@@ -44,7 +44,7 @@ to2 s = to1 s && test s 2
 abbrev to3 : State → Bool
 to3 s = to2 s && test s 3
 
-abbrev state : tie.After-is-between → State
+abbrev state : tie.After-is_between → State
 state c = c.before.before.before.args.state
 
 -- a number as its bits have it
@@ -52,37 +52,37 @@ as_read : (b : Bounded) {z : ℤ} → z ≡ b.value → between b.least b.most z
 as_read b e = ap (between b.least b.most) e
 
 -- each in turn, read from the field's bits where the tests before it held
-gain : (c : tie.After-is-between) → c.is-between.result ≡ test (state c) 0
+gain : (c : tie.After-is_between) → c.is_between.result ≡ test (state c) 0
 gain c =
-    let read = read_back w32 (state c).pf.agc_gain_q12 c.before.struct_told.given.1.1.1.1.0.1 in
-    c.is-between.ensures ∙ as_read (number (state c) 0) read
+    let read = read_back w32 (state c).pf-1.agc_gain_q12 c.before.struct_told-1.given.1.1.1.1.0.1 in
+    c.is_between.ensures ∙ as_read (number (state c) 0) read
 
-lag : (c : tie.Joined1) → c.if1.if2 ≡ to1 (state c.before)
+lag : (c : tie.Joined-is_between) → c.if-is_between.if-is_between-2 ≡ to1 (state c.before)
 lag c =
     let s = state c.before in
     let read = read_back w32 s.last_lag in
     let t = sym (gain c.before) in
     ⊎_elim
     (λ w. w.3 ∙ w.2.ensures ∙ as_read (number s 1) (read w.1.given.1.1.1.1.0.1) ∙ and_there {a = test s 0} {b = test s 1} refl (t ∙ w.0.taken) refl)
-    (λ w. w.1 ∙ w.0.left ∙ sym (t ∙ w.0.left) ∙ and-here {a = test s 0} (test s 1) refl (t ∙ w.0.left)) c.if1.branch
+    (λ w. w.1 ∙ w.0.left ∙ sym (t ∙ w.0.left) ∙ and-here {a = test s 0} (test s 1) refl (t ∙ w.0.left)) c.if-is_between.branch
 
-lag2 : (c : tie.Joined2) → c.if2.if3 ≡ to2 (state c.before.before)
+lag2 : (c : tie.Joined-is_between-2) → c.if-is_between-2.if-is_between-3 ≡ to2 (state c.before.before)
 lag2 c =
     let s = state c.before.before in
     let read = read_back w32 s.last_lag2 in
     let t = sym (lag c.before) in
     ⊎_elim
     (λ w. w.3 ∙ w.2.ensures ∙ as_read (number s 2) (read w.1.given.1.1.1.1.1.0.1) ∙ and_there {a = to1 s} {b = test s 2} refl (t ∙ w.0.taken) refl)
-    (λ w. w.1 ∙ w.0.left ∙ sym (t ∙ w.0.left) ∙ and-here {a = to1 s} (test s 2) refl (t ∙ w.0.left)) c.if2.branch
+    (λ w. w.1 ∙ w.0.left ∙ sym (t ∙ w.0.left) ∙ and-here {a = to1 s} (test s 2) refl (t ∙ w.0.left)) c.if-is_between-2.branch
 
-taps : (c : tie.Joined3) → c.if3.if4 ≡ to3 (state c.before.before.before)
+taps : (c : tie.Joined-is_between-3) → c.if-is_between-3.if-is_between-4 ≡ to3 (state c.before.before.before)
 taps c =
     let s = state c.before.before.before in
     let read = read_back w32 s.last_taps_sum_q15 in
     let t = sym (lag2 c.before) in
     ⊎_elim
     (λ w. w.3 ∙ w.2.ensures ∙ as_read (number s 3) (read w.1.given.1.1.1.1.1.1.0.1) ∙ and_there {a = to2 s} {b = test s 3} refl (t ∙ w.0.taken) refl)
-    (λ w. w.1 ∙ w.0.left ∙ sym (t ∙ w.0.left) ∙ and-here {a = to2 s} (test s 3) refl (t ∙ w.0.left)) c.if3.branch
+    (λ w. w.1 ∙ w.0.left ∙ sym (t ∙ w.0.left) ∙ and-here {a = to2 s} (test s 3) refl (t ∙ w.0.left)) c.if-is_between-3.branch
 
 -- grouped from the right and ended, as the list has them
 ended : (b : Bool) → b ≡ (b && true)
@@ -95,22 +95,22 @@ regrouped s =
     ∙ and-regroup (test s 0) (test s 1) (test s 2 && (test s 3 && test s 4))
     ∙ ap (λ (b : Bool). test s 0 && (test s 1 && (test s 2 && (test s 3 && b)))) (ended (test s 4))
 
-returns : tie.Need-returns
+returns : tie.Need-returns-then-is_between-4
 returns c =
     let j = c.before.before.before in
     let s = state j.before.before.before in
-    let read = read_back w32 s.last_gain_unvoiced c.before.struct-told5.given.1.1.1.1.1.1.1.0.1 in
-    c.is-between5.ensures ∙ as_read (number s 4) read
-    ∙ and_there {a = to3 s} {b = test s 4} refl (sym (taps j) ∙ c.before.before.if4.true) refl ∙ regrouped s
+    let read = read_back w32 s.last_gain_unvoiced c.before.struct_told-then-is_between-4-1.given.1.1.1.1.1.1.1.0.1 in
+    c.is_between-then-is_between-4.ensures ∙ as_read (number s 4) read
+    ∙ and_there {a = to3 s} {b = test s 4} refl (sym (taps j) ∙ c.before.before.if-is_between-4.true) refl ∙ regrouped s
 
-returns-2 : tie.Need-returns-2
+returns-2 : tie.Need-returns-else-is_between-4
 returns-2 c =
     let s = state c.before.before.before.before in
-    let t = sym (taps c.before) ∙ c.if4.false in
-    c.if4.false ∙ sym t ∙ and-here {a = to3 s} (test s 4) refl t ∙ regrouped s
+    let t = sym (taps c.before) ∙ c.if-is_between-4.false in
+    c.if-is_between-4.false ∙ sym t ∙ and-here {a = to3 s} (test s 4) refl t ∙ regrouped s
 
-pub numbers-in-bounds-spec : {M : Type 1} → statement M
-numbers-in-bounds-spec =
+pub numbers_in_bounds_spec : {M : Type 1} → statement M
+numbers_in_bounds_spec =
     tie.close
     (tie.spec
     is-between-requires

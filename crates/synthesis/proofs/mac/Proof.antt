@@ -8,20 +8,20 @@ use Rattle.synthesis.proofs.mac.Tie as tie
 
 fits : (s : tie.Start) → let a = s.args in SFits w64 (a.a *ℤ a.y) × SFits w64 (a.acc +ℤ a.a *ℤ a.y)
 fits s =
-    let p = within-mul (within-fits s.ranges.a) (within-fits s.requires.1) in
-    (fits-within p tt, fits-within (within-add s.requires.0 p) tt)
+    let p = within-mul (within-fits s.ranges.a) (within-fits s.requires.sfits) in
+    (fits-within p tt, fits-within (within-add s.requires.within p) tt)
 
-cast-result : tie.Need-overflow-cast-result
+cast-result : tie.Need-overflow_cast-result
 cast-result c = search signed
 
-mul-result : tie.Need-overflow-mul-result
+mul-result : tie.Need-overflow_mul-result
 mul-result c = let f = fits c in search signed
 
-add-result : tie.Need-overflow-add-result
+add-result : tie.Need-overflow_add-result
 add-result c = let f = fits c in search signed
 
 returns : tie.Need-returns
 returns c = let f = fits c in search signed
 
-pub mac-spec : {M : Type 1} → statement M
-mac-spec = tie.close (tie.spec cast-result mul-result add-result returns)
+pub mac_spec : {M : Type 1} → statement M
+mac_spec = tie.close (tie.spec cast-result mul-result add-result returns)

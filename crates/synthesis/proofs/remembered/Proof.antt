@@ -14,34 +14,34 @@ use Rattle.integers.specs.Fill.{take-tabulate}
 use Rattle.synthesis.proofs.remembered.Statement.{statement}
 use Rattle.synthesis.proofs.remembered.Tie as tie
 
-cast-t4 : tie.Need-overflow-cast-t4
+cast-t4 : tie.Need-overflow_cast-result
 cast-t4 c = need_cast (is_arg c.ranges.y) (widen c.ranges.y tt)
 
-array-copy-out-t7 : tie.Need-array-copy-out-t7
+array-copy-out-t7 : tie.Need-bounds-mem-0
 array-copy-out-t7 c = omega arith
 
-array-copy-out-t10 : tie.Need-array-copy-out-t10
+array-copy-out-t10 : tie.Need-bounds-mem-1
 array-copy-out-t10 c = omega arith
 
-array-copy-out-t13 : tie.Need-array-copy-out-t13
+array-copy-out-t13 : tie.Need-bounds-mem-2
 array-copy-out-t13 c = omega arith
 
-array-copy-out-t16 : tie.Need-array-copy-out-t16
+array-copy-out-t16 : tie.Need-bounds-mem-3
 array-copy-out-t16 c = omega arith
 
-array-copy-out-t19 : tie.Need-array-copy-out-t19
+array-copy-out-t19 : tie.Need-bounds-mem-4
 array-copy-out-t19 c = omega arith
 
-array-copy-out-t22 : tie.Need-array-copy-out-t22
+array-copy-out-t22 : tie.Need-bounds-mem-5
 array-copy-out-t22 c = omega arith
 
-array-copy-out-t25 : tie.Need-array-copy-out-t25
+array-copy-out-t25 : tie.Need-bounds-mem-6
 array-copy-out-t25 c = omega arith
 
-array-copy-out-t28 : tie.Need-array-copy-out-t28
+array-copy-out-t28 : tie.Need-bounds-mem-7
 array-copy-out-t28 c = omega arith
 
-array-copy-out-t31 : tie.Need-array-copy-out-t31
+array-copy-out-t31 : tie.Need-bounds-mem-8
 array-copy-out-t31 c = omega arith
 
 -- r is what reads an element back from its bits
@@ -53,13 +53,13 @@ ten r l e h k = simp (e, h, take-tabulate (pos 0) l 9 k)
 returns : tie.Need-returns
 returns c =
     let s = c.before.before.before.before.before.before.before.before.before in
-    let l = s.args.t1 in
-    let f : AllFit w64 l = all_fit 10 s.well-formed.0 in
+    let l = s.args.mem in
+    let f : AllFit w64 l = all_fit 10 s.well_formed.0 in
     let newest = (is-cast (is_arg s.ranges.y) (widen s.ranges.y tt)).is in
-    ten (λ z. to_z w64 (of_z w64 z)) l newest (λ i. to_z-of_z (f.at i)) (omega (arith, s.well-formed.0.1.0.1))
+    ten (λ z. to_z w64 (of_z w64 z)) l newest (λ i. to_z-of_z (f.at i)) (omega (arith, s.well_formed.0.1.0.1))
 
-pub remembered-spec : {M : Type 1} → statement M
-remembered-spec =
+pub remembered_spec : {M : Type 1} → statement M
+remembered_spec =
     tie.close
     (tie.spec
     cast-t4

@@ -12,10 +12,10 @@ use Rattle.adaptive.proofs.Bounds.{limited-lag_bounds}
 use Rattle.voicing.proofs.candidate_lag.Statement.{statement}
 use Rattle.voicing.proofs.candidate_lag.Tie as tie
 
-cast-limited-lag : tie.Need-overflow-cast-limited-lag
+cast-limited-lag : tie.Need-overflow_cast-centre
 cast-limited-lag c = record { sfits = omega arith }
 
-cast-limited-lag-2 : tie.Need-overflow-cast-limited-lag-2
+cast-limited-lag-2 : tie.Need-overflow_cast-k
 cast-limited-lag-2 c = record { sfits = omega arith }
 
 -- the sum, and the lag that is limited
@@ -29,23 +29,23 @@ module _ (s : tie.Start) where
   room : SFits w32 (sum -ℤ pos 3)
   room = sub-fits {w₁ = w16} {w₂ = w8} sum (pos 3) (record { sfits = omega arith }) (sfits_lit tt) tt
 
-add-limited-lag : tie.Need-overflow-add-limited-lag
+add-limited-lag : tie.Need-overflow_add-centre
 add-limited-lag c = need_add (is_arg (cast-limited-lag c)) (is_arg (cast-limited-lag-2 c)) (record { sfits = omega arith })
 
-sub-limited-lag : tie.Need-overflow-sub-limited-lag
+sub-limited-lag : tie.Need-overflow_sub-centre
 sub-limited-lag c = need_sub (sum_is c) (is-lit w32 3) (room c)
 
-limited-lag-requires : tie.Need-limited-lag-requires
+limited-lag-requires : tie.Need-limited_lag-requires
 limited-lag-requires c κs = tt
 
 returns : tie.Need-returns
-returns c = c.limited-lag.ensures ∙ ap limited_lag (is-sub (sum_is c.before) (is-lit w32 3) (room c.before)).is
+returns c = c.limited_lag.ensures ∙ ap limited_lag (is-sub (sum_is c.before) (is-lit w32 3) (room c.before)).is
 
-cast-result : tie.Need-overflow-cast-result
+cast-result : tie.Need-overflow_cast-result
 cast-result c = record { fits = omega (arith, returns c, limited-lag_bounds (sum c.before -ℤ pos 3)) }
 
-pub candidate-lag-spec : {M : Type 1} → statement M
-candidate-lag-spec =
+pub candidate_lag_spec : {M : Type 1} → statement M
+candidate_lag_spec =
     tie.close
     (tie.spec
     cast-limited-lag

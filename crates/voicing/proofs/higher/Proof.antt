@@ -8,24 +8,24 @@ use Rattle.voicing.proofs.Scores.{higher_first, higher_second, higher_ranks}
 use Rattle.voicing.proofs.higher.Statement.{statement}
 use Rattle.voicing.proofs.higher.Tie as tie
 
-returns : tie.Need-returns
-returns c = let a = c.before.before.args in higher_first a.a a.b (not-true a.b.counts c.if1.true)
+returns : tie.Need-returns-then-not-b
+returns c = let a = c.before.before.args in higher_first a.a a.b (not-true a.b.counts c.if-not-b.true)
 
-returns-2 : tie.Need-returns-2
+returns-2 : tie.Need-returns-then-not-a
 returns-2 c =
     let e = c.before.before in
     let a = e.before.before.args in
-    higher_second a.a a.b (not-false a.b.counts e.if1.false) (not-true a.a.counts c.if2.true)
+    higher_second a.a a.b (not-false a.b.counts e.if-not-b.false) (not-true a.a.counts c.if-not-a.true)
 
 less-requires : tie.Need-less-requires
 less-requires c κs = tt
 
 -- both count
 module _ (c : tie.After-less) (t : Bool) (h : c.less.result ≡ t) where
-  abbrev f : tie.Else2
+  abbrev f : tie.Else-not-a
   f = c.before.before
 
-  abbrev e : tie.Else1
+  abbrev e : tie.Else-not-b
   e = f.before.before
 
   abbrev a : Leader
@@ -36,14 +36,14 @@ module _ (c : tie.After-less) (t : Bool) (h : c.less.result ≡ t) where
 
   ranked : cond t b a ≡ cond (ltb (score_of a) (score_of b)) b a
   ranked =
-      higher_ranks a b (not-false b.counts e.if1.left) t (not-false a.counts f.if2.left)
+      higher_ranks a b (not-false b.counts e.if-not-b.left) t (not-false a.counts f.if-not-a.left)
       (sym c.less.ensures ∙ h)
 
-returns-3 : tie.Need-returns-3
-returns-3 c = ranked c.before true c.if3.true
+returns-3 : tie.Need-returns-then-less
+returns-3 c = ranked c.before true c.if-less.true
 
-returns-4 : tie.Need-returns-4
-returns-4 c = ranked c.before false c.if3.false
+returns-4 : tie.Need-returns-else-less
+returns-4 c = ranked c.before false c.if-less.false
 
-pub higher-spec : {M : Type 1} → statement M
-higher-spec = tie.close (tie.spec returns returns-2 less-requires returns-3 returns-4)
+pub higher_spec : {M : Type 1} → statement M
+higher_spec = tie.close (tie.spec returns returns-2 less-requires returns-3 returns-4)

@@ -11,7 +11,7 @@ use Rattle.voicing.proofs.passes_gate.Tie as tie
 product-requires : tie.Need-product-requires
 product-requires c κs = tt
 
-times-requires : tie.Need-times-requires
+times-requires : tie.Need-times-square-requires
 times-requires c κs = tt
 
 product-requires-2 : tie.Need-product-requires-2
@@ -25,10 +25,10 @@ returns c =
     let t = c.before.before in
     let s = t.before.before in
     let a = s.args.c in
-    let square = square_times_lem (2 ^ 37) 8 a 8 s.requires (lit≤ tt) tt t.before.product.ensures t.times.ensures in
-    ap not (c.less.ensures ∙ (λ i. ltb ((square ∙ mul_comm (a * a) 8) i) (c.before.product2.ensures i)))
+    let square = square_times_lem (2 ^ 37) 8 a 8 s.requires (lit≤ tt) tt t.before.product.ensures t.times-square.ensures in
+    ap not (c.less.ensures ∙ (λ i. ltb ((square ∙ mul_comm (a * a) 8) i) (c.before.product-2.ensures i)))
     ∙ sym (leb_not_ltb (s.args.e * s.args.t) (8 * (a * a)))
 
-pub passes-gate-spec : {M : Type 1} → statement M
-passes-gate-spec =
+pub passes_gate_spec : {M : Type 1} → statement M
+passes_gate_spec =
     tie.close (tie.spec product-requires times-requires product-requires-2 less-requires returns)

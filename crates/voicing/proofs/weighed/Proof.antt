@@ -10,43 +10,43 @@ use Rattle.voicing.proofs.weighed.Tie as tie
 uncounted-requires : tie.Need-uncounted-requires
 uncounted-requires c κs = tt
 
-returns : tie.Need-returns
+returns : tie.Need-returns-then-lag-ge-HISTORY
 returns c =
     let a = c.before.before.args in
     let u = c.uncounted.ensures in
-    weighs_far a.pcm-hist.now a.lag c.before.if1.true u.0 u.1
+    weighs_far a.pcm-hist.now a.lag c.before.if-lag-ge-HISTORY.true u.0 u.1
 
-sub-n : tie.Need-overflow-sub-n
+sub-n : tie.Need-overflow_sub-n
 sub-n c = omega arith
 
-correlate-requires : tie.Need-correlate-requires
+correlate-requires : tie.Need-correlate-s-requires
 correlate-requires c κs = tt
 
-energy-from-requires : tie.Need-energy-from-requires
+energy-from-requires : tie.Need-energy_from-e-requires
 energy-from-requires c κs = tt
 
-energy-from-requires-2 : tie.Need-energy-from-requires-2
+energy-from-requires-2 : tie.Need-energy_from-t-requires
 energy-from-requires-2 c κs = tt
 
-with-sums-requires : tie.Need-with-sums-requires
+with-sums-requires : tie.Need-with_sums-requires
 with-sums-requires c κs =
-    let k = c.before.before.before.before.correlate in
-    within-le (within-is (is-mag k.result k.type-inv) k.ensures.1) (omega arith)
+    let k = c.before.before.before.before.correlate-s in
+    within-le (within-is (is-mag k.result k.type_inv) k.ensures.1) (omega arith)
 
-returns-2 : tie.Need-returns-2
+returns-2 : tie.Need-returns
 returns-2 c =
     let t = c.before in
     let e = t.before.before in
     let k = e.before.before in
     let l = k.before.before.before in
     let a = l.before.args in
-    let s = back w64 k.correlate.type-inv k.correlate.ensures.0 in
-    let w = c.with-sums.ensures in
-    weighs_near a.pcm-hist.now a.lag s e.energy-from.ensures.0 t.energy-from2.ensures.0
-    l.if1.false w.0 w.1
+    let s = back w64 k.correlate-s.type_inv k.correlate-s.ensures.value in
+    let w = c.with_sums.ensures in
+    weighs_near a.pcm-hist.now a.lag s e.energy_from-e.ensures.result_value t.energy_from-t.ensures.result_value
+    l.if-lag-ge-HISTORY.false w.lag_value w.weighs_by
 
-pub weighed-spec : {M : Type 1} → statement M
-weighed-spec =
+pub weighed_spec : {M : Type 1} → statement M
+weighed_spec =
     tie.close
     (tie.spec
     uncounted-requires

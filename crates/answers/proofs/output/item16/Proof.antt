@@ -3,7 +3,7 @@ use Rattle.integers.specs.Signed.{signed}
 use Rattle.answers.proofs.output.item16.Statement.{statement}
 use Rattle.answers.proofs.output.item16.Tie as tie
 
-cast-item : tie.Need-overflow-cast-item
+cast-item : tie.Need-overflow_cast-x
 cast-item c = search signed
 
 item-requires : tie.Need-item-requires
@@ -12,5 +12,5 @@ item-requires c κs = search rules
 returns : tie.Need-returns
 returns c = search rules
 
-pub item16-spec : {M : Type 1} → statement M
-item16-spec = tie.close (tie.spec cast-item item-requires returns)
+pub item16_spec : {M : Type 1} → statement M
+item16_spec = tie.close (tie.spec cast-item item-requires returns)

@@ -2,7 +2,7 @@ use Rattle.integers.specs.Signed.{signed}
 use Rattle.answers.proofs.output.print16.Statement.{statement}
 use Rattle.answers.proofs.output.print16.Tie as tie
 
-cast-print32 : tie.Need-overflow-cast-print32
+cast-print32 : tie.Need-overflow_cast-x
 cast-print32 c = search signed
 
 print32-requires : tie.Need-print32-requires
@@ -11,5 +11,5 @@ print32-requires c κs = tt
 returns : tie.Need-returns
 returns c = search signed
 
-pub print16-spec : {M : Type 1} → statement M
-print16-spec = tie.close (tie.spec cast-print32 print32-requires returns)
+pub print16_spec : {M : Type 1} → statement M
+print16_spec = tie.close (tie.spec cast-print32 print32-requires returns)

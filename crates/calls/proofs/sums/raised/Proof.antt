@@ -33,13 +33,13 @@ module _ (c : tie.Start) where
       let n = natural sum (omega (line, l, a)) in
       (n.0, record { fits = omega (line, l, a, n.2) })
 
-cast-result : tie.Need-overflow-cast-result
+cast-result : tie.Need-overflow_cast-result
 cast-result c = search signed
 
-add-result : tie.Need-overflow-add-result
+add-result : tie.Need-overflow_add-result
 add-result c = need_add (whole c) (is-lit w64 2147483648) (fits c)
 
-cast-result-2 : tie.Need-overflow-cast-result-2
+cast-result-2 : tie.Need-overflow_cast-result-2
 cast-result-2 c =
     subst (λ (z : ℤ). T (non_neg z) × Fits w32 (nat_abs z))
     (sym (is-add (whole c) (is-lit w64 2147483648) (fits c)).is) (unsigned c)
@@ -47,5 +47,5 @@ cast-result-2 c =
 returns : tie.Need-returns
 returns c = search signed
 
-pub raised-spec : {M : Type 1} → statement M
-raised-spec = tie.close (tie.spec cast-result add-result cast-result-2 returns)
+pub raised_spec : {M : Type 1} → statement M
+raised_spec = tie.close (tie.spec cast-result add-result cast-result-2 returns)

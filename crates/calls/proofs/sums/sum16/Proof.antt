@@ -4,41 +4,41 @@ use Rattle.integers.specs.Signed.{signed}
 use Rattle.calls.proofs.sums.sum16.Statement.{statement}
 use Rattle.calls.proofs.sums.sum16.Tie as tie
 
-abbrev invariant-loop : tie.invariant-loop
+abbrev invariant-loop : tie.invariant-loop-i
 invariant-loop start xs sum₀ i₀ sum i = i ≤ length xs
 
-abbrev decreases-loop : tie.decreases-loop
+abbrev decreases-loop : tie.decreases-loop-i
 decreases-loop start xs sum₀ i₀ sum i = length xs - i
 
-loop-holds : tie.Need-loop-init invariant-loop decreases-loop
+loop-holds : tie.Need-loop-i-init invariant-loop decreases-loop
 loop-holds c = search signed
 
-mul-with32 : tie.Need-overflow-mul-with32 invariant-loop decreases-loop
+mul-with32 : tie.Need-offset_bounds-xs-i invariant-loop decreases-loop
 mul-with32 c = search signed
 
-shared-slice-copy-out-with32 : tie.Need-shared-slice-copy-out-with32 invariant-loop decreases-loop
+shared-slice-copy-out-with32 : tie.Need-bounds-xs-i invariant-loop decreases-loop
 shared-slice-copy-out-with32 c = search signed
 
-cast-with32 : tie.Need-overflow-cast-with32 invariant-loop decreases-loop
+cast-with32 : tie.Need-overflow_cast-xs invariant-loop decreases-loop
 cast-with32 c = search signed
 
-with32-requires : tie.Need-with32-requires invariant-loop decreases-loop
+with32-requires : tie.Need-with32-sum-requires invariant-loop decreases-loop
 with32-requires c κs = search signed
 
-add-i : tie.Need-overflow-add-i invariant-loop decreases-loop
+add-i : tie.Need-overflow_add-i invariant-loop decreases-loop
 add-i c = search signed
 
-loop-less : tie.Need-loop-smaller invariant-loop decreases-loop
+loop-less : tie.Need-loop-i-smaller invariant-loop decreases-loop
 loop-less c = search signed
 
-loop-again : tie.Need-loop-preserved invariant-loop decreases-loop
+loop-again : tie.Need-loop-i-preserved invariant-loop decreases-loop
 loop-again c = search signed
 
 returns : tie.Need-returns invariant-loop decreases-loop
 returns c = search signed
 
-pub sum16-spec : {M : Type 1} → statement M
-sum16-spec =
+pub sum16_spec : {M : Type 1} → statement M
+sum16_spec =
     tie.close
     (tie.spec
     invariant-loop

@@ -7,5 +7,5 @@ returns : tie.Need-returns
 unfolding cosines
 returns c = refl
 
-pub lsp-cosines-spec : {M : Type 1} → statement M
-lsp-cosines-spec = tie.close (tie.spec returns)
+pub lsp_cosines_spec : {M : Type 1} → statement M
+lsp_cosines_spec = tie.close (tie.spec returns)

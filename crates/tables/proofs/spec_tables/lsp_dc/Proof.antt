@@ -7,5 +7,5 @@ returns : tie.Need-returns
 unfolding mean_lsps
 returns c = refl
 
-pub lsp-dc-spec : {M : Type 1} → statement M
-lsp-dc-spec = tie.close (tie.spec returns)
+pub lsp_dc_spec : {M : Type 1} → statement M
+lsp_dc_spec = tie.close (tie.spec returns)

@@ -7,5 +7,5 @@ returns : tie.Need-returns
 unfolding weights
 returns c = refl
 
-pub mpmlq-weights-spec : {M : Type 1} → statement M
-mpmlq-weights-spec = tie.close (tie.spec returns)
+pub mpmlq_weights_spec : {M : Type 1} → statement M
+mpmlq_weights_spec = tie.close (tie.spec returns)

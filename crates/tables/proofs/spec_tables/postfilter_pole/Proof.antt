@@ -7,5 +7,5 @@ returns : tie.Need-returns
 unfolding postfilter_poles
 returns c = refl
 
-pub postfilter-pole-spec : {M : Type 1} → statement M
-postfilter-pole-spec = tie.close (tie.spec returns)
+pub postfilter_pole_spec : {M : Type 1} → statement M
+postfilter_pole_spec = tie.close (tie.spec returns)

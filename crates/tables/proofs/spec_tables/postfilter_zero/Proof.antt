@@ -7,5 +7,5 @@ returns : tie.Need-returns
 unfolding postfilter_zeros
 returns c = refl
 
-pub postfilter-zero-spec : {M : Type 1} → statement M
-postfilter-zero-spec = tie.close (tie.spec returns)
+pub postfilter_zero_spec : {M : Type 1} → statement M
+postfilter_zero_spec = tie.close (tie.spec returns)
