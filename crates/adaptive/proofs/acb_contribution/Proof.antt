@@ -36,7 +36,10 @@ lag-is : (c : tie.After-limited_lag-l invariant-loop decreases-loop) → c.limit
 lag-is c = c.limited_lag-l.ensures ∙ ap limited_lag (to_z-of_z {w = w32} c.before.before.ranges.lag)
 
 delayed-samples-requires : tie.Need-delayed_samples-e-requires invariant-loop decreases-loop
-delayed-samples-requires c κs = record { le_p = rw c.before.subframe_place-p.ensures (subframe_place_bounds c.before.before.args.s); le_l = rw (lag-is c) (limited-lag_bounds c.before.before.args.lag) }
+delayed-samples-requires c κs = (
+  rw c.before.subframe_place-p.ensures (subframe_place_bounds c.before.before.args.s),
+  rw (lag-is c) (limited-lag_bounds c.before.before.args.lag),
+)
 
 loop-holds : tie.Need-loop-n-init invariant-loop decreases-loop
 loop-holds c = fills_start refl
@@ -88,12 +91,12 @@ module _ (c : tie.After-correlate-sum invariant-loop decreases-loop) where
   sum_is : to_z w64 (of_z w64 c.correlate-sum.result) ≡ sum_to (λ j. entry taps j *ℤ delayed x p l (i.loop-n.n + j)) acb_taps
   sum_is =
       let read = ap (λ (e : List ℤ). correlation taps 0 e i.loop-n.n acb_taps) d.delayed_samples-e.ensures in
-      back w64 c.correlate-sum.type_inv (c.correlate-sum.ensures.value ∙ read ∙ delayed-sum x p l taps i.loop-n.n c.before.before.before.loop-n-test.true)
+      back w64 c.correlate-sum.type_inv (c.correlate-sum.ensures.0 ∙ read ∙ delayed-sum x p l taps i.loop-n.n c.before.before.before.loop-n-test.true)
 
 loop-again : tie.Need-loop-n-preserved invariant-loop decreases-loop
 loop-again c =
     let rounded = c.rounded_tap_sum.ensures ∙ (λ k. floor_div (sum_is c.before k +ℤ pos 8192) 16384) in
-    fills_next (i c.before).loop-n.inv (omega arith) (back w32 c.rounded_tap_sum.type_inv rounded)
+    fills_next (i c.before).loop-n.invariant (omega arith) (back w32 c.rounded_tap_sum.type_inv rounded)
 
 returns : tie.Need-returns invariant-loop decreases-loop
 unfolding adaptive

@@ -30,7 +30,7 @@ module _ (c : tie.After-examine) where
       examined a.given a.«record».now a.samples-1.now ≡ k
   found-is e =
       let a = start.args in
-      record_found_lem a.given a.«record».now a.samples-1.now whole sound (sym c.examine.ensures.answer ∙ e)
+      record_found_lem a.given a.«record».now a.samples-1.now whole sound (sym c.examine.ensures.0 ∙ e)
 
 refused-requires : tie.Need-refused-requires
 refused-requires c κs = tt
@@ -74,7 +74,7 @@ enum_told : tie.Need-enum_told-1
 enum_told c = search rules
 
 decode-erased-requires : tie.Need-decode_erased-requires
-decode-erased-requires c κs = let e = c.before.before.before in record { samples_len = whole e; given_value = sound e }
+decode-erased-requires c κs = let e = c.before.before.before in (whole e, sound e)
 
 enum-known-rate : tie.Need-enum_known-rate
 enum-known-rate c = search rules
@@ -86,7 +86,7 @@ fields-requires : tie.Need-fields-fields-requires
 fields-requires c κs = tt
 
 decode-received-requires : tie.Need-decode_received-requires
-decode-received-requires c κs = let e = c.before.before.before.before.before.before.before in record { samples_len = whole e; given_value = sound e }
+decode-received-requires c κs = let e = c.before.before.before.before.before.before.before in (whole e, sound e)
 
 returns-3 : tie.Need-returns-in-Refused
 returns-3 c =
@@ -121,8 +121,8 @@ returns-5 c =
     let form = t.rate-1.given.0.1.0 in
     let r = c.before.decode_received.ensures in
     received_promised a.given a.«record».now a.samples-1.now rate form (found-is e t.rate-1.given.1)
-    (r.answer ∙ (λ i. let y = l.candidates_of-candidates.ensures i in acceptance (received_checked a.given y).outcome (received_state a.given rate (f.fields-fields.ensures i) y)))
-    (r.samples ∙ (λ i. received_samples a.given rate (f.fields-fields.ensures i) (l.candidates_of-candidates.ensures i)))
+    (r.0 ∙ (λ i. let y = l.candidates_of-candidates.ensures i in acceptance (received_checked a.given y).outcome (received_state a.given rate (f.fields-fields.ensures i) y)))
+    (r.1 ∙ (λ i. received_samples a.given rate (f.fields-fields.ensures i) (l.candidates_of-candidates.ensures i)))
 
 pub decode_spec : {M : Type 1} → statement M
 decode_spec =

@@ -39,13 +39,13 @@ module _ (c : tie.After-output_frame-f) where
   written = c.output_frame-f.new.0
 
   output-length : length written ≡ 240
-  output-length = c.output_frame-f.auto.0 ∙ start.requires.samples_len
+  output-length = c.output_frame-f.auto.0 ∙ start.requires.0
 
   memory-is : memory.narrow_memory-mem.result ≡ start.args.given.syn_mem
   memory-is =
       let given = start.args.given in
       let size = field-length given.syn_mem start.good.1.0.1.1.1.1.0.1.0.1 in
-      memory.narrow_memory-mem.ensures ∙ memory_narrowed given size start.requires.given_value
+      memory.narrow_memory-mem.ensures ∙ memory_narrowed given size start.requires.1
 
   sets-is : let a = start.args in
       memory.before.before.frame_lpc_q13-sets.result ≡ frame_coefficients a.given.prev_lsp a.checked.lsps-1
@@ -61,16 +61,16 @@ module _ (c : tie.After-output_frame-f) where
   output-is =
       let a = start.args in
       let g = a.given in
-      c.output_frame-f.ensures.samples
-      ∙ output_in_lem g.postfilter sets a.inputs before a.samples-1.now start.requires.samples_len
+      c.output_frame-f.ensures.1
+      ∙ output_in_lem g.postfilter sets a.inputs before a.samples-1.now start.requires.0
       ∙ (λ i. frame_output g.postfilter (sets-is i) a.inputs record { syn_mem = memory-is i; pf = g.pf-1 })
 
   filters-is : let a = start.args in c.output_frame-f.result ≡ filters_last a.given a.checked.lsps-1 a.inputs
   filters-is =
       let a = start.args in
       let g = a.given in
-      c.output_frame-f.ensures.memories
-      ∙ filters_in_lem g.postfilter sets a.inputs before a.samples-1.now start.requires.samples_len
+      c.output_frame-f.ensures.0
+      ∙ filters_in_lem g.postfilter sets a.inputs before a.samples-1.now start.requires.0
       ∙ (λ i. frame_filters g.postfilter (sets-is i) a.inputs record { syn_mem = memory-is i; pf = g.pf-1 })
 
 sub-pcm-history : tie.Need-slice_bounds-pcm_history-count
@@ -106,7 +106,8 @@ returns c =
     let f = filters-is o in
     let told = c.struct_told-1.given in
     let size = output-length o in
-    let tail = take_all 120 (drop 120 (written o)) (omega (arith, length-drop 120 (written o), size)) in record { answer = (λ i. acceptance a.checked.outcome record {
+    let tail = take_all 120 (drop 120 (written o)) (omega (arith, length-drop 120 (written o), size)) in (
+      (λ i. acceptance a.checked.outcome record {
         prev_lsp = a.checked.lsps-1;
         exc_hist = h.history_after-history.ensures i;
         syn_mem = (w.widen_memory-after.ensures ∙ (λ j. (f j).syn_mem)) i;
@@ -118,7 +119,9 @@ returns c =
         pcm_hist = (t.pcm_history-tail.ensures ∙ tail ∙ ap (drop 120) (output-is o)) i;
         erased_run = a.last.erased_run;
         postfilter = a.given.postfilter;
-      }); samples = output-is o }
+      }),
+      output-is o,
+    )
 
 pub finish_frame_spec : {M : Type 1} → statement M
 finish_frame_spec =

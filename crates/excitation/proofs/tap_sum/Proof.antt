@@ -52,7 +52,7 @@ module _ (c : tie.After-sum-1 invariant-loop decreases-loop) where
   term-within = within-is term_is (within-mag w16 tap c.sum-1.given)
 
   sum_fits : SFits w32 (to_z w32 l.loop-j.sum-1 +ℤ term)
-  sum_fits = sums-fits 5 l.loop-j.inv.1 c.before.loop-j-test.true term term-within (lit≤ tt)
+  sum_fits = sums-fits 5 l.loop-j.invariant.1 c.before.loop-j-test.true term term-within (lit≤ tt)
 
 cast-sum : tie.Need-overflow_cast-sum invariant-loop decreases-loop
 cast-sum c = need_cast (is-mag (tap c) c.sum-1.given) (tap-fits c)

@@ -55,7 +55,7 @@ module _ (c : tie.After-tap-arg-in-loop-n-1 invariant-loop decreases-loop) where
       λ i. sum i +ℤ to_z-of_z {w = w16} at-loop.before.ranges.w i *ℤ x i
 
   term_fits : SFits w32 (term n)
-  term_fits = subst (SFits w32) (tabulate-at term 60 n (pos 0) c.before.before.loop-n-test.true) (at-loop.before.requires.all_fit.at n)
+  term_fits = subst (SFits w32) (tabulate-at term 60 n (pos 0) c.before.before.loop-n-test.true) (at-loop.before.requires.1.at n)
 
 tap-requires : tie.Need-tap-requires invariant-loop decreases-loop
 tap-requires c κs = subst (SFits w32) (sym (term_is c)) (term_fits c)
@@ -80,7 +80,7 @@ loop-again c =
     let sum = read_back w32 (entry a.t1 (n t)) t.before.tap-arg-1.given in
     let x = read_back w16 (entry a.line.now (n t + a.k)) t.tap-arg-in-loop-n-1.given in
     let r = c.tap in
-    fills_next l.loop-n.inv (omega arith) (back w32 r.type_inv (r.ensures ∙ (λ i. sum i +ℤ to_z w16 (of_z w16 a.w) *ℤ x i)))
+    fills_next l.loop-n.invariant (omega arith) (back w32 r.type_inv (r.ensures ∙ (λ i. sum i +ℤ to_z w16 (of_z w16 a.w) *ℤ x i)))
 
 returns : tie.Need-returns invariant-loop decreases-loop
 returns c =

@@ -14,13 +14,13 @@ enum-known-best c = search rules
 
 -- the sums of the best so far
 small : (c : tie.In-Lag-2) → SmallSums c.best-1.given.0.1.0 c.best-1.given.0.1.1.0
-small c = subst Small c.best-1.given.1 c.before.before.requires.small
+small c = subst Small c.best-1.given.1 c.before.before.requires.0
 
 square-times-requires : tie.Need-square_times-requires
-square-times-requires c κs = ((small c.before).first, c.before.before.before.requires.c_bound.1)
+square-times-requires c κs = ((small c.before).first, c.before.before.before.requires.1.1)
 
 square-times-requires-2 : tie.Need-square_times-requires-in-Lag
-square-times-requires-2 c κs = let b = c.before.before in (b.before.before.requires.c_bound.0, (small b).second)
+square-times-requires-2 c κs = let b = c.before.before in (b.before.before.requires.1.0, (small b).second)
 
 less-requires : tie.Need-less-requires
 less-requires c κs = tt

@@ -34,7 +34,7 @@ array-copy-out-cos-at : tie.Need-bounds-lsp-k invariant-loop decreases-loop
 array-copy-out-cos-at c = omega arith
 
 cos-at-requires : tie.Need-cos_at-c-requires invariant-loop decreases-loop
-cos-at-requires c κs = c.before.before.before.requires.table_value
+cos-at-requires c κs = c.before.before.before.requires.0
 
 times-factor-requires : tie.Need-times_factor-q-requires invariant-loop decreases-loop
 times-factor-requires c κs =

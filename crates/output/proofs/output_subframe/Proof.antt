@@ -26,7 +26,10 @@ returns c =
     let t = c.before.before.before in
     let y = (synthesis-of t.before).synthesis_subframe-y in
     let a = (start_of t.before).args in
-    let off = t.if-not-on.true in record { memories = (λ i. record { syn_mem = y.ensures.1 i; pf = a.f.pf-1 }) ∙ memories_off a.on a.a a.t4 a.f off; samples = c.before.write_samples.ensures ∙ y.ensures.0 ∙ output-off a.on a.a a.t4 a.f off }
+    let off = t.if-not-on.true in (
+      (λ i. record { syn_mem = y.ensures.1 i; pf = a.f.pf-1 }) ∙ memories_off a.on a.a a.t4 a.f off,
+      c.before.write_samples.ensures ∙ y.ensures.0 ∙ output-off a.on a.a a.t4 a.f off,
+    )
 
 postfilter-subframe-requires : tie.Need-postfilter_subframe-z-requires
 postfilter-subframe-requires c κs = tt
@@ -47,7 +50,10 @@ returns-2 c =
     let on = t.if-not-on.false in
     let f = z.postfilter_subframe-z.ensures in
     let passed = f.1 ∙ ap (postfilter_after a.f.pf-1 a.a) y.ensures.0 in
-    let written = f.0 ∙ ap (filtered a.f.pf-1 a.a) y.ensures.0 in record { memories = (λ i. record { syn_mem = y.ensures.1 i; pf = passed i }) ∙ memories_on a.on a.a a.t4 a.f on; samples = w.write_samples-2.ensures ∙ written ∙ output_on a.on a.a a.t4 a.f on }
+    let written = f.0 ∙ ap (filtered a.f.pf-1 a.a) y.ensures.0 in (
+      (λ i. record { syn_mem = y.ensures.1 i; pf = passed i }) ∙ memories_on a.on a.a a.t4 a.f on,
+      w.write_samples-2.ensures ∙ written ∙ output_on a.on a.a a.t4 a.f on,
+    )
 
 pub output_subframe_spec : {M : Type 1} → statement M
 output_subframe_spec =

@@ -94,7 +94,10 @@ returns : tie.Need-returns invariant-loop decreases-loop
 returns c =
     let a = c.before.before.args in
     let v = c.before.loop-s.invariant in
-    let e : c.before.loop-s.s ≡ 4 = omega arith in record { memories = v.3 ∙ ap (filters_at a.on a.t3 a.t4 a.f) e; samples = v.1 ∙ written_end a.on a.t3 a.t4 a.f a.samples-1.now c.before.loop-s.s c.before.before.requires e }
+    let e : c.before.loop-s.s ≡ 4 = omega arith in (
+      v.3 ∙ ap (filters_at a.on a.t3 a.t4 a.f) e,
+      v.1 ∙ written_end a.on a.t3 a.t4 a.f a.samples-1.now c.before.loop-s.s c.before.before.requires e,
+    )
 
 pub output_subframes_spec : {M : Type 1} → statement M
 output_subframes_spec =

@@ -39,7 +39,7 @@ element-copy-out-mixed-sample-2 : tie.Need-bounds-x-q invariant-loop decreases-l
 element-copy-out-mixed-sample-2 c = omega arith
 
 mixed-sample-requires : tie.Need-mixed_sample-requires invariant-loop decreases-loop
-mixed-sample-requires c κs = c.before.before.before.before.requires.w_bound
+mixed-sample-requires c κs = c.before.before.before.before.requires.1
 
 mul-v : tie.Need-offset_bounds-v-n invariant-loop decreases-loop
 mul-v c = omega arith
@@ -67,7 +67,7 @@ loop-again c =
 
 returns : tie.Need-returns invariant-loop decreases-loop
 unfolding mixed
-returns c = record { value = fills_end c.before.loop-n.invariant.0 (omega arith); all_within = c.before.loop-n.invariant.1 }
+returns c = (fills_end c.before.loop-n.invariant.0 (omega arith), c.before.loop-n.invariant.1)
 
 pub mixed_subframe_spec : {M : Type 1} → statement M
 mixed_subframe_spec =

@@ -51,7 +51,7 @@ returns : tie.Need-returns-then-not-write invariant-loop decreases-loop
 returns c =
     let f = c.before.before.before.before.before.before in
     let l = f.before.before.before in
-    record { stream_value = λ e. clash {b = true} refl (sym e); by_index = reached-more l.before.before.args.given l.loop-at.stream-1 f.feed-f.result.stream-1 _ l.loop-at.invariant.2 (progress_carried l.loop-at.stream-1 (drop l.loop-at.at l.before.before.args.input.now) f.feed-f.result (progress f)) }
+    (λ e. clash {b = true} refl (sym e), reached-more l.before.before.args.given l.loop-at.stream-1 f.feed-f.result.stream-1 _ l.loop-at.invariant.2 (progress_carried l.loop-at.stream-1 (drop l.loop-at.at l.before.before.args.input.now) f.feed-f.result (progress f)))
 
 add_at : tie.Need-overflow_add-at invariant-loop decreases-loop
 add_at c =
@@ -87,7 +87,7 @@ returns-2 : tie.Need-returns invariant-loop decreases-loop
 returns-2 c =
     let l = c.before in
     let xs = l.before.before.args.input.now in
-    record { stream_value = λ e. sym (l.loop-at.invariant.1 ∙ ap (stream_after l.loop-at.stream-1) (drop_of_length-le xs {i = l.loop-at.at} (omega arith)) ∙ nothing-carried l.loop-at.stream-1 [] (omega arith)); by_index = l.loop-at.invariant.2 }
+    (λ e. sym (l.loop-at.invariant.1 ∙ ap (stream_after l.loop-at.stream-1) (drop_of_length-le xs {i = l.loop-at.at} (omega arith)) ∙ nothing-carried l.loop-at.stream-1 [] (omega arith)), l.loop-at.invariant.2)
 
 pub piece_spec : {M : Type 1} → statement M
 piece_spec =

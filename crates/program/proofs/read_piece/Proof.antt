@@ -31,7 +31,7 @@ piece-requires : tie.Need-piece-requires
 piece-requires c κs = tt
 
 returns-2 : tie.Need-returns
-returns-2 c = c.piece.ensures.by_index
+returns-2 c = c.piece.ensures.1
 
 pub read_piece_spec : {M : Type 1} → statement M
 read_piece_spec =

@@ -41,9 +41,9 @@ returns : tie.Need-returns-then-not-s invariant-loop decreases-loop
 returns c =
     let s = c.before.before.before.before in
     let l = s.before.before in
-    let still = sym s.one_pass-s.ensures.moved_value ∙ not-true _ c.before.if-not-s.true in
+    let still = sym s.one_pass-s.ensures.1 ∙ not-true _ c.before.if-not-s.true in
     answered l
-    ((λ i. record { lsps = s.one_pass-s.ensures.lsps_value i; outcome = c.outcome_after.ensures i })
+    ((λ i. record { lsps = s.one_pass-s.ensures.0 i; outcome = c.outcome_after.ensures i })
     ∙ still_end (min l) l.before.args.p l.loop-n.n l.loop-n.q-1 l.loop-n.invariant (omega arith) still)
 
 add-n : tie.Need-overflow_add-n invariant-loop decreases-loop
@@ -56,8 +56,8 @@ loop-again : tie.Need-loop-n-preserved invariant-loop decreases-loop
 loop-again c =
     let s = c.before.before.before in
     let l = s.before.before in
-    let moved = sym s.one_pass-s.ensures.moved_value ∙ not-false _ c.if-not-s.false in
-    subst (Turn (min l) l.before.args.p (l.loop-n.n + 1)) (sym s.one_pass-s.ensures.lsps_value)
+    let moved = sym s.one_pass-s.ensures.1 ∙ not-false _ c.if-not-s.false in
+    subst (Turn (min l) l.before.args.p (l.loop-n.n + 1)) (sym s.one_pass-s.ensures.0)
     (turn-next (min l) l.before.args.p l.loop-n.n l.loop-n.q-1 l.loop-n.invariant (omega arith) moved)
 
 any-short-requires : tie.Need-any_short-requires invariant-loop decreases-loop

@@ -39,7 +39,7 @@ mac-requires c κs =
     let l = c.before.before.before in
     let f = l.before.requires.at l.loop-j.j in
     let sum : Within (9 * 2 ^ 30) (to_z w64 l.loop-j.acc) = rw l.loop-j.invariant.1.is (within-le l.loop-j.invariant.1.small (omega arith)) in
-    record { within = sum; sfits = need_cast (is_arg (widen f tt)) f }
+    (sum, need_cast (is_arg (widen f tt)) f)
 
 add-j : tie.Need-overflow_add-j invariant-loop decreases-loop
 add-j c = omega arith

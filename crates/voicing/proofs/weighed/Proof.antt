@@ -40,10 +40,10 @@ returns-2 c =
     let k = e.before.before in
     let l = k.before.before.before in
     let a = l.before.args in
-    let s = back w64 k.correlate-s.type_inv k.correlate-s.ensures.value in
+    let s = back w64 k.correlate-s.type_inv k.correlate-s.ensures.0 in
     let w = c.with_sums.ensures in
-    weighs_near a.pcm-hist.now a.lag s e.energy_from-e.ensures.result_value t.energy_from-t.ensures.result_value
-    l.if-lag-ge-HISTORY.false w.lag_value w.weighs_by
+    weighs_near a.pcm-hist.now a.lag s e.energy_from-e.ensures.0 t.energy_from-t.ensures.0
+    l.if-lag-ge-HISTORY.false w.0 w.1
 
 pub weighed_spec : {M : Type 1} → statement M
 weighed_spec =
