@@ -79,7 +79,7 @@ loop-again c =
     let filled = fills_at inv (m - l) (pos 0) in
     ⊎_elim (λ w. rw w.2 (fills_next inv (omega arith) (back w16 w.1.given (delayed-first x p l m (omega arith) w.0.taken))))
     (λ w. rw w.2 (fills_next inv (omega arith) (back w16 w.1.given (filled (omega arith) ∙ delayed-again x p l m w.0.left))))
-    c.if-m-l.branch
+    c.if-m-l.branch-raw
 
 returns : tie.Need-returns invariant-loop decreases-loop
 returns c = fills_end c.before.loop-m.invariant c.loop-m-test.false

@@ -100,10 +100,10 @@ module _ (c : tie.After-low_part-l invariant-loop decreases-loop) where
   abbrev l : ℤ
   l = to_z w32 (of_z w32 c.low_part-l.result)
 
-  high_fits : SFits w32 (to_z w32 at-loop.loop-i.high +ℤ h)
+  high_fits : SFits w32 (to_z w32 at-loop.loop-i.high-bits +ℤ h)
   high_fits = sums-fits 255 at-loop.loop-i.invariant.1 (omega arith) (to_z w32 (of_z w32 c.before.high_part-h.result)) high_small (lit< tt)
 
-  low_fits : SFits w32 (to_z w32 at-loop.loop-i.low +ℤ l)
+  low_fits : SFits w32 (to_z w32 at-loop.loop-i.low-bits +ℤ l)
   low_fits = sums-fits 255 at-loop.loop-i.invariant.2 (omega arith) (to_z w32 (of_z w32 c.low_part-l.result)) low_small (lit< tt)
 
 add-high : tie.Need-overflow_add-high invariant-loop decreases-loop
@@ -122,8 +122,8 @@ loop-again : tie.Need-loop-i-preserved invariant-loop decreases-loop
 loop-again c =
     let k = (at-loop c).loop-i in (
       omega arith,
-      sums_next k.invariant.1 (h c) (to_z w32 k.high +ℤ h c) (high_small c) (high_is c) refl (high_fits c).sfits,
-      sums_next k.invariant.2 (l c) (to_z w32 k.low +ℤ l c) (low_small c) (low-is c) refl (low_fits c).sfits,
+      sums_next k.invariant.1 (h c) (to_z w32 k.high-bits +ℤ h c) (high_small c) (high_is c) refl (high_fits c).sfits,
+      sums_next k.invariant.2 (l c) (to_z w32 k.low-bits +ℤ l c) (low_small c) (low-is c) refl (low_fits c).sfits,
       bounded-next (f c) k.i k.invariant.3 (term-within c),
     )
 

@@ -68,12 +68,12 @@ returns-2 c =
     let d = t.before.before in
     let k = d.decimal-k.result in
     let a = (start p).args in
-    let ds = take k d.decimal-k.new.1.0 in
+    let ds = take k d.decimal-k.new.out in
     let some : 0 < a.count = omega (arith, d.before.before.if-count-eq0.false) in
     let named : List ℕ → List ℕ = λ l. l ++ (78 ∷ (48 + a.n / 10) ∷ (48 + a.n % 10) ∷ 32 ∷ []) in (
       λ l e.
           c.with_byte.ensures.0 (named l ++ ds) (p.with_text-counted.ensures.0 (named l) (t.with_text-named.ensures.0 l e))
-          ∙ ap closing_text (line_parts l ds a.n a.count k some (start p).ranges.count.fits d.decimal-k.ensures.1.0 d.decimal-k.ensures.1.1),
+          ∙ ap closing_text (line_parts l ds a.n a.count k some (start p).ranges.count.fits d.decimal-k.ensures.1.0 d.decimal-k.ensures.1.1.0),
       omega (arith, length_before p, c.with_byte.ensures.1),
     )
 

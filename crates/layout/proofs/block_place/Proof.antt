@@ -39,14 +39,14 @@ module _ (c : tie.Joined-s) where
   size_is : c.before.match-rate.size ≡ block_size rate
   size_is =
       ⊎_elim (λ w. w.2 ∙ sym (ap block_size w.1.given.1)) (λ w. w.2 ∙ sym (ap block_size w.1.given.1))
-      c.before.match-rate.branch
+      c.before.match-rate.branch-raw
 
   ordinal-is : c.match-s.ordinal ≡ ordinal s
   ordinal-is =
       ⊎_elim (λ w. w.2 ∙ sym (ap ordinal w.1.given.1))
       (⊎_elim (λ w. w.2 ∙ sym (ap ordinal w.1.given.1))
       (⊎_elim (λ w. w.2 ∙ sym (ap ordinal w.1.given.1)) (λ w. w.2 ∙ sym (ap ordinal w.1.given.1))))
-      c.match-s.branch
+      c.match-s.branch-raw
 
   place_is : 4 + c.match-s.ordinal * c.before.match-rate.size ≡ block_place rate s
   place_is = λ i. 4 + ordinal-is i * size_is i

@@ -45,7 +45,7 @@ loop-again c =
     let e : pushed now (get_or xs i 0) ≡ next =
     ⊎_elim (λ w. push_kept l.loop-i.text-1 l.loop-i.len l.loop-i.over (get_or xs i 0) w.0.taken ∙ (λ k. line_of (sym w.2 k) (sym w.3 k) (sym w.4 k)))
     (λ w. push_over l.loop-i.text-1 l.loop-i.len l.loop-i.over (get_or xs i 0) w.0.left ∙ (λ k. line_of (sym w.1 k) (sym w.2 k) (sym w.3 k)))
-    c.if-len-lt-LINE_MAX.branch in
+    c.if-len-lt-LINE_MAX.branch-raw in
     (omega arith, l.loop-i.invariant.1 ∙ push_next now xs i (omega arith) ∙ ap (λ (m : Line). pushed_all m (drop (i + 1) xs)) e)
 
 returns : tie.Need-returns invariant-loop decreases-loop

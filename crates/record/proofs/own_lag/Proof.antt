@@ -72,7 +72,7 @@ module _ (c : tie.Joined-s) where
       ⊎_elim (λ w. (w.2 ∙ sym (ap (stepCode r) w.1.given.1), omega arith))
       (⊎_elim (λ w. (w.3 ∙ w.2.ensures ∙ sym (ap (stepCode r) w.1.given.1), omega arith))
       (⊎_elim (λ w. (w.2 ∙ sym (ap (stepCode r) w.1.given.1), omega arith))
-      (λ w. (w.3 ∙ w.2.ensures ∙ sym (ap (stepCode r) w.1.given.1), omega arith)))) c.match-s.branch
+      (λ w. (w.3 ∙ w.2.ensures ∙ sym (ap (stepCode r) w.1.given.1), omega arith)))) c.match-s.branch-raw
 
   base_read : Is w32 base (pos base)
   base_read = is-mag (pos base) (omega arith)

@@ -44,7 +44,7 @@ lists c =
     (λ w.
     let m : tie.After-memory-then-are_words-1 = record { before = record { before = c.before; if1 = w.0 }; memory2 = w.1 } in
     w.3 ∙ memory record { before = m; are-words2 = w.2 } ∙ and_there {a = is_history s} {b = is_memory s} refl (t ∙ w.0.taken) refl)
-    (λ w. w.1 ∙ w.0.left ∙ sym (t ∙ w.0.left) ∙ and-here {a = is_history s} (is_memory s) refl (t ∙ w.0.left)) c.if-are_words.branch
+    (λ w. w.1 ∙ w.0.left ∙ sym (t ∙ w.0.left) ∙ and-here {a = is_history s} (is_memory s) refl (t ∙ w.0.left)) c.if-are_words.branch-raw
 
 regrouped : (s : State) → ((is_history s && is_memory s) && are_numbers s) ≡ in_bounds s
 unfolding in_bounds

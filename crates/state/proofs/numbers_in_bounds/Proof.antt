@@ -64,7 +64,7 @@ lag c =
     let t = sym (gain c.before) in
     ⊎_elim
     (λ w. w.3 ∙ w.2.ensures ∙ as_read (number s 1) (read w.1.given.1.1.1.1.0.1) ∙ and_there {a = test s 0} {b = test s 1} refl (t ∙ w.0.taken) refl)
-    (λ w. w.1 ∙ w.0.left ∙ sym (t ∙ w.0.left) ∙ and-here {a = test s 0} (test s 1) refl (t ∙ w.0.left)) c.if-is_between.branch
+    (λ w. w.1 ∙ w.0.left ∙ sym (t ∙ w.0.left) ∙ and-here {a = test s 0} (test s 1) refl (t ∙ w.0.left)) c.if-is_between.branch-raw
 
 lag2 : (c : tie.Joined-is_between-2) → c.if-is_between-2.if-is_between-3 ≡ to2 (state c.before.before)
 lag2 c =
@@ -73,7 +73,7 @@ lag2 c =
     let t = sym (lag c.before) in
     ⊎_elim
     (λ w. w.3 ∙ w.2.ensures ∙ as_read (number s 2) (read w.1.given.1.1.1.1.1.0.1) ∙ and_there {a = to1 s} {b = test s 2} refl (t ∙ w.0.taken) refl)
-    (λ w. w.1 ∙ w.0.left ∙ sym (t ∙ w.0.left) ∙ and-here {a = to1 s} (test s 2) refl (t ∙ w.0.left)) c.if-is_between-2.branch
+    (λ w. w.1 ∙ w.0.left ∙ sym (t ∙ w.0.left) ∙ and-here {a = to1 s} (test s 2) refl (t ∙ w.0.left)) c.if-is_between-2.branch-raw
 
 taps : (c : tie.Joined-is_between-3) → c.if-is_between-3.if-is_between-4 ≡ to3 (state c.before.before.before)
 taps c =
@@ -82,7 +82,7 @@ taps c =
     let t = sym (lag2 c.before) in
     ⊎_elim
     (λ w. w.3 ∙ w.2.ensures ∙ as_read (number s 3) (read w.1.given.1.1.1.1.1.1.0.1) ∙ and_there {a = to2 s} {b = test s 3} refl (t ∙ w.0.taken) refl)
-    (λ w. w.1 ∙ w.0.left ∙ sym (t ∙ w.0.left) ∙ and-here {a = to2 s} (test s 3) refl (t ∙ w.0.left)) c.if-is_between-3.branch
+    (λ w. w.1 ∙ w.0.left ∙ sym (t ∙ w.0.left) ∙ and-here {a = to2 s} (test s 3) refl (t ∙ w.0.left)) c.if-is_between-3.branch-raw
 
 -- grouped from the right and ended, as the list has them
 ended : (b : Bool) → b ≡ (b && true)

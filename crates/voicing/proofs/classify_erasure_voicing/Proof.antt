@@ -31,7 +31,7 @@ returns-2 c =
     let v = w c.before in
     let failed : (v.counts && v.gated) ≡ false =
     ⊎_elim (λ g. ap (λ (b : Bool). v.counts && b) g.1.left ∙ and-false v.counts)
-    (λ g. ap (λ (b : Bool). b && v.gated) g.left) c.else-w.branch in
+    (λ g. ap (λ (b : Bool). b && v.gated) g.left) c.else-w.branch-raw in
     answer c.before false failed
 
 pub classify_erasure_voicing_spec : {M : Type 1} → statement M
