@@ -104,7 +104,7 @@ returns c =
     let d = c.before.before in
     let a = d.before.before.before.args in
     fills_end c.before.loop-n.invariant c.loop-n-test.false
-    ∙ (λ k. tabulate (adaptive_sample a.signal.now (d.before.before.subframe_place-p.ensures k) (lag-is d.before k) a.t4) 60)
+    ∙ (λ k. tabulate (adaptive_sample a.signal.now (d.before.before.subframe_place-p.ensures k) (lag-is d.before k) a.taps) 60)
 
 pub acb_contribution_spec : {M : Type 1} → statement M
 acb_contribution_spec =

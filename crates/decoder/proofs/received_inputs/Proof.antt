@@ -23,7 +23,7 @@ returns : tie.Need-returns-then-not-on
 returns c =
     let a = c.before.before.args in
     let x = a.signal.now in
-    let through = pitch_inputs a.rate (λ s. entry a.t4 (ordinal s)) x in
+    let through = pitch_inputs a.rate (λ s. entry a.lags (ordinal s)) x in
     c.plain_inputs.ensures ∙ choice-off a.on through (plain_inputs x) c.before.if-not-on.true
 
 array-copy-out-pitch-postfilter : tie.Need-bounds-lags-0
@@ -58,17 +58,17 @@ returns-2 c =
     let e = x1.before.before in
     let a = e.before.args in
     let x = a.signal.now in
-    let lag0 = read_back w32 (entry a.t4 0) x1.before.pitch_postfilter-arg-1.given in
-    let lag1 = read_back w32 (entry a.t4 1) x2.before.pitch_postfilter-arg-2-1.given in
-    let lag2 = read_back w32 (entry a.t4 2) x3.before.pitch_postfilter-arg-3-1.given in
-    let lag3 = read_back w32 (entry a.t4 3) c.before.pitch_postfilter-arg-4-1.given in
+    let lag0 = read_back w32 (entry a.lags 0) x1.before.pitch_postfilter-arg-1.given in
+    let lag1 = read_back w32 (entry a.lags 1) x2.before.pitch_postfilter-arg-2-1.given in
+    let lag2 = read_back w32 (entry a.lags 2) x3.before.pitch_postfilter-arg-3-1.given in
+    let lag3 = read_back w32 (entry a.lags 3) c.before.pitch_postfilter-arg-4-1.given in
     let at : Subframe → ℤ → List ℤ = λ s z. postfiltered x a.rate (subframe_place s) (limited_lag z) in
     (λ i. (x1.pitch_postfilter-x0.ensures ∙ ap (at Zero) lag0) i
     ∷ (x2.pitch_postfilter-x1.ensures ∙ ap (at One) lag1) i
     ∷ (x3.pitch_postfilter-x2.ensures ∙ ap (at Two) lag2) i
     ∷ (c.pitch_postfilter-x3.ensures ∙ ap (at Three) lag3) i
     ∷ [])
-    ∙ choice_on a.on (pitch_inputs a.rate (λ s. entry a.t4 (ordinal s)) x) (plain_inputs x) e.if-not-on.false
+    ∙ choice_on a.on (pitch_inputs a.rate (λ s. entry a.lags (ordinal s)) x) (plain_inputs x) e.if-not-on.false
 
 pub received_inputs_spec : {M : Type 1} → statement M
 received_inputs_spec =

@@ -42,7 +42,7 @@ module _ (c : tie.After-line-1 invariant-loop decreases-loop) where
   next-is =
       let a = at-loop.before.args in
       let j = at-loop.loop-j.j in
-      ap with (read_back w16 (entry a.t1 j) c.before.tapped-arg-1.given) ∙ sums_next a.t1 a.t2 j at-loop.loop-j.invariant.1
+      ap with (read_back w16 (entry a.w j) c.before.tapped-arg-1.given) ∙ sums_next a.w a.line j at-loop.loop-j.invariant.1
 
 tapped-requires : tie.Need-tapped-next-requires invariant-loop decreases-loop
 tapped-requires c κs =

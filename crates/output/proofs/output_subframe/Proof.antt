@@ -27,8 +27,8 @@ returns c =
     let y = (synthesis-of t.before).synthesis_subframe-y in
     let a = (start_of t.before).args in
     let off = t.if-not-on.true in (
-      (λ i. record { syn_mem = y.ensures.1 i; pf = a.f.pf-1 }) ∙ memories_off a.on a.a a.t4 a.f off,
-      c.before.write_samples.ensures ∙ y.ensures.0 ∙ output-off a.on a.a a.t4 a.f off,
+      (λ i. record { syn_mem = y.ensures.1 i; pf = a.f.pf-1 }) ∙ memories_off a.on a.a a.x a.f off,
+      c.before.write_samples.ensures ∙ y.ensures.0 ∙ output-off a.on a.a a.x a.f off,
     )
 
 postfilter-subframe-requires : tie.Need-postfilter_subframe-z-requires
@@ -51,8 +51,8 @@ returns-2 c =
     let f = z.postfilter_subframe-z.ensures in
     let passed = f.1 ∙ ap (postfilter_after a.f.pf-1 a.a) y.ensures.0 in
     let written = f.0 ∙ ap (filtered a.f.pf-1 a.a) y.ensures.0 in (
-      (λ i. record { syn_mem = y.ensures.1 i; pf = passed i }) ∙ memories_on a.on a.a a.t4 a.f on,
-      w.write_samples-2.ensures ∙ written ∙ output_on a.on a.a a.t4 a.f on,
+      (λ i. record { syn_mem = y.ensures.1 i; pf = passed i }) ∙ memories_on a.on a.a a.x a.f on,
+      w.write_samples-2.ensures ∙ written ∙ output_on a.on a.a a.x a.f on,
     )
 
 pub output_subframe_spec : {M : Type 1} → statement M

@@ -57,14 +57,14 @@ module _ (s : tie.Start) where
 
 -- ---- what each call answers, of the memory and the subframe
 
-formant-is : (c : tie.After-formant_subframe-f) → let a = (start_of c).args in c.formant_subframe-f.result.out-1 ≡ formant_of a.pf a.a a.t3
+formant-is : (c : tie.After-formant_subframe-f) → let a = (start_of c).args in c.formant_subframe-f.result.out-1 ≡ formant_of a.pf a.a a.y
 formant-is c = c.formant_subframe-f.ensures.0
 
-energy-is : (c : tie.After-energy_from-r0) → let a = (start_of (filter-of c)).args in c.energy_from-r0.result ≡ nat_abs (energy a.t3 0 60)
+energy-is : (c : tie.After-energy_from-r0) → let a = (start_of (filter-of c)).args in c.energy_from-r0.result ≡ nat_abs (energy a.y 0 60)
 energy-is c = ap nat_abs c.energy_from-r0.ensures.0
 
 tilt-is : (c : tie.After-smoothed_tilt-k1) → let a = (start_of (filter-of (energy-of (correlation-of c)))).args in
-    to_z w16 (of_z w16 c.smoothed_tilt-k1.result) ≡ tilt_after a.pf a.a a.t3
+    to_z w16 (of_z w16 c.smoothed_tilt-k1.result) ≡ tilt_after a.pf a.a a.y
 tilt-is c =
     let q = correlation-of c in
     let r1 = back w64 q.correlate-r1.ok q.correlate-r1.ensures.0 in
@@ -75,14 +75,14 @@ tilt-is c =
     back w16 c.smoothed_tilt-k1.type_inv (c.smoothed_tilt-k1.ensures ∙ (λ i. smoothed (k1 i) (k i)))
 
 compensated-is : (c : tie.After-compensated_subframe-v) → let a = (start_of (filter-of (measured-of c))).args in
-    c.compensated_subframe-v.result ≡ compensated_of a.pf a.a a.t3
+    c.compensated_subframe-v.result ≡ compensated_of a.pf a.a a.y
 compensated-is c =
     let f = filter-of (measured-of c) in
     let prev = to_z-of_z {w = w16} (prev-fits (start_of f)) in
     c.compensated_subframe-v.ensures ∙ (λ i. compensated (tilt-is (tilt-of c) i) (prev i) (formant-is f i))
 
 target_is : (c : tie.After-gain_target-target) → let a = (start_of (filter-of (measured-of (compensation-of c)))).args in
-    to_z w32 (of_z w32 c.gain_target-target.result) ≡ target_of a.pf a.a a.t3
+    to_z w32 (of_z w32 c.gain_target-target.result) ≡ target_of a.pf a.a a.y
 target_is c =
     let v = compensation-of c in
     let e = energy-is (measured-of v) in

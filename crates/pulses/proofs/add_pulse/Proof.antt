@@ -30,7 +30,7 @@ module _ (c : tie.After-out-1 invariant-loop decreases-loop) where
   l = c.before.before
 
   abbrev x : ℤ
-  x = entry l.loop-j.out-1 l.loop-j.j
+  x = entry l.loop-j.out l.loop-j.j
 
   still : x ≡ entry l.before.args.v l.loop-j.j
   still = repeating_later l.loop-j.invariant l.loop-j.j (omega arith) c.before.loop-j-test.true

@@ -42,7 +42,7 @@ loop-holds c =
 -- the grid bit as the code has it
 grid-is : (c : tie.Joined-d invariant-loop decreases-loop) → c.if-d.grid ≡ cond c.before.before.before.args.d.grid 1 0
 grid-is c =
-    ⊎_elim (λ w. w.1 ∙ sym (ap (λ (b : Bool). cond b 1 0) w.0.taken)) (λ w. w.1 ∙ sym (ap (λ (b : Bool). cond b 1 0) w.0.left)) c.if-d.branch-raw
+    ⊎_elim (λ w. w.grid-is ∙ sym (ap (λ (b : Bool). cond b 1 0) w.if-d.true)) (λ w. w.grid-is ∙ sym (ap (λ (b : Bool). cond b 1 0) w.if-d.false)) c.if-d.branch-raw
 
 -- the step is none that adding it to a sample's number overflows
 step_is : (c : tie.After-pulse_step-step invariant-loop decreases-loop) → (0 < c.pulse_step-step.result) × (c.pulse_step-step.result < 2 ^ 32)
@@ -117,9 +117,9 @@ loop-again c =
     let g = p.before in
     let h = g.before.requires.0 in
     ⊎_elim
-    (λ w. rw (w.4, w.5)
-    (placing_hit h l.loop-slot.invariant w.0.taken p.pulse_step-step.ensures (grid-is j) (back w32 w.1.ok w.1.ensures ∙ signed_is g (l.loop-slot.left - 1)) w.3.ensures))
-    (λ w. rw (w.1, w.2) (placing_miss h l.loop-slot.invariant w.0.left))
+    (λ w. rw (w.v-is, w.left-is)
+    (placing_hit h l.loop-slot.invariant w.if-rest-eq1.true p.pulse_step-step.ensures (grid-is j) (back w32 w.with_sign-amp.type_inv w.with_sign-amp.ensures ∙ signed_is g (l.loop-slot.left - 1)) w.add_pulse-w.ensures))
+    (λ w. rw (w.v-is, w.left-is) (placing_miss h l.loop-slot.invariant w.if-rest-eq1.false))
     c.if-rest-eq1.branch-raw
 
 returns : tie.Need-returns invariant-loop decreases-loop

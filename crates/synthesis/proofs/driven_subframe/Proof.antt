@@ -41,7 +41,7 @@ sample-requires : tie.Need-sample-y-requires invariant-loop decreases-loop
 sample-requires c κs =
     let l = c.before.before in
     let x = l.before.before.requires.at l.loop-n.n in
-    (within-is (is-mag (entry l.before.before.args.x.now l.loop-n.n) c.sample-arg-1.given) x, l.loop-n.invariant.1.fit)
+    (within-is {w = w64} (is-mag (entry l.before.before.args.x.now l.loop-n.n) c.sample-arg-1.given) x, l.loop-n.invariant.1.fit)
 
 mul-out : tie.Need-offset_bounds-out-n invariant-loop decreases-loop
 mul-out c = omega arith
