@@ -66,7 +66,7 @@ silent-is : (c : tie.After-frame_signal-silent) → let g = given (start_of (che
     c.frame_signal-silent.result ≡ frame_signal g.exc_hist
 silent-is c =
     let s = start_of (checked-of (class_of c)) in
-    let size = field-length (given s).exc_hist s.good.1.0.1.1.1.0.1.0.1 in
+    let size = field-length (given s).exc_hist s.well_formed.1.0.1.1.1.0.1.0.1 in
     c.frame_signal-silent.ensures ∙ signal_narrowed (given s) size s.requires.1
 
 module _ (c : tie.After-plain_inputs-inputs) where

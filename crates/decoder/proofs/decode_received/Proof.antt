@@ -76,7 +76,7 @@ module _ (c : tie.After-read_block-b3) where
 silent-is : (c : tie.After-frame_signal-x0) → c.frame_signal-x0.result ≡ frame_signal (given (begin-of (blocks-of c))).exc_hist
 silent-is c =
     let s = begin-of (blocks-of c) in
-    let size = field-length (given s).exc_hist s.good.1.0.1.1.1.0.1.0.1 in
+    let size = field-length (given s).exc_hist s.well_formed.1.0.1.1.1.0.1.0.1 in
     c.frame_signal-x0.ensures ∙ signal_narrowed (given s) size s.requires.1
 
 signal-is : (c : tie.After-received_subframe-signal) → let s = begin-of (blocks-of (silent-of c)) in

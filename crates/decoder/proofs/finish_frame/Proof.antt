@@ -44,7 +44,7 @@ module _ (c : tie.After-output_frame-f) where
   memory-is : memory.narrow_memory-mem.result ≡ start.args.given.syn_mem
   memory-is =
       let given = start.args.given in
-      let size = field-length given.syn_mem start.good.1.0.1.1.1.1.0.1.0.1 in
+      let size = field-length given.syn_mem start.well_formed.1.0.1.1.1.1.0.1.0.1 in
       memory.narrow_memory-mem.ensures ∙ memory_narrowed given size start.requires.1
 
   sets-is : let a = start.args in

@@ -49,7 +49,7 @@ tapped-requires c κs =
     let l = at-loop c in
     let s = l.before in
     let h = c.before.before.loop-j-test.true in
-    let fit : AllFit w16 s.args.line = all_fit 70 s.good.1.0 in
+    let fit : AllFit w16 s.args.line = all_fit 70 s.well_formed.1.0 in
     (omega arith, subst (AllFit w32) (sym (next-is c)) (sums-fit s.args.w s.args.line s.requires fit (l.loop-j.j + 1) (omega arith)))
 
 add-j : tie.Need-overflow_add-j invariant-loop decreases-loop

@@ -67,12 +67,12 @@ rounded-q13-requires c κs =
     let h = polynomial-within s.args.lsp (all_fit 10 s.well_formed.1.0) in
     let x : AllWithin (2 ^ 37) p.result = rw p.ensures (h _ 5 (lit≤ tt)) in
     let y : AllWithin (2 ^ 37) q.result = rw q.ensures (h _ 5 (lit≤ tt)) in (
-      within-is (is-mag (entry p.result (j + 1)) c.before.before.before.rounded_q13-arg-1.given) (x.at (j + 1)),
+      within-is {w = w64} (is-mag (entry p.result (j + 1)) c.before.before.before.rounded_q13-arg-1.given) (x.at (j + 1)),
       (
-        within-is (is-mag (entry p.result j) c.before.before.rounded_q13-arg-in-loop-j-1.given) (x.at j),
+        within-is {w = w64} (is-mag (entry p.result j) c.before.before.rounded_q13-arg-in-loop-j-1.given) (x.at j),
         (
-          within-is (is-mag (entry q.result (j + 1)) c.before.rounded_q13-arg-in-loop-j-2-1.given) (y.at (j + 1)),
-          within-is (is-mag (entry q.result j) c.rounded_q13-arg-in-loop-j-3-1.given) (y.at j),
+          within-is {w = w64} (is-mag (entry q.result (j + 1)) c.before.rounded_q13-arg-in-loop-j-2-1.given) (y.at (j + 1)),
+          within-is {w = w64} (is-mag (entry q.result j) c.rounded_q13-arg-in-loop-j-3-1.given) (y.at j),
         ),
       ),
     )

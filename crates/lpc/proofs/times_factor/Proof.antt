@@ -42,7 +42,7 @@ term-requires c κs =
     let z = c.before.earlier-z in
     let h = l.before.requires.at in
     let i = l.loop-i.i in (
-      within-is (is-mag (entry l.before.args.p i) c.term-arg-1.given) (h i),
+      within-is {w = w64} (is-mag (entry l.before.args.p i) c.term-arg-1.given) (h i),
       (within-is (is-result w64 y.result y.type_inv y.ensures) (before-within h i 1), within-is (is-result w64 z.result z.type_inv z.ensures) (before-within h i 2)),
     )
 

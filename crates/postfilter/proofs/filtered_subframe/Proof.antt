@@ -50,10 +50,10 @@ module _ (s : tie.Start) where
   prev-fits = let fields = s.well_formed.0.1.1 in record { sfits = fields.1.1.0.1 }
 
   k1-fits : SFits w16 s.args.pf.tilt_k1
-  k1-fits = let fields = s.good.0.1.1 in record { sfits = fields.1.1.1.0.1 }
+  k1-fits = let fields = s.well_formed.0.1.1 in record { sfits = fields.1.1.1.0.1 }
 
   gain-fits : SFits w32 s.args.pf.agc_gain_q12
-  gain-fits = let fields = s.good.0.1.1 in record { sfits = fields.1.1.1.1.0.1 }
+  gain-fits = let fields = s.well_formed.0.1.1 in record { sfits = fields.1.1.1.1.0.1 }
 
 -- ---- what each call answers, of the memory and the subframe
 
