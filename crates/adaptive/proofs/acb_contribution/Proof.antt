@@ -54,7 +54,7 @@ correlate-requires : tie.Need-correlate-sum-requires invariant-loop decreases-lo
 correlate-requires c κs = tt
 
 rounded-tap-sum-requires : tie.Need-rounded_tap_sum-requires invariant-loop decreases-loop
-rounded-tap-sum-requires c κs = let r = c.correlate-sum in within-is (is-mag r.result r.type_inv) r.ensures.1
+rounded-tap-sum-requires c κs = let r = c.correlate-sum in within-is {w = w64} (is-mag r.result r.type_inv) r.ensures.1
 
 mul-u : tie.Need-offset_bounds-u-n invariant-loop decreases-loop
 mul-u c = omega arith

@@ -31,7 +31,7 @@ returns : tie.Need-returns-in-Values
 returns c =
     let m = c.before in
     let a = m.before.before.before.args in
-    c.candidate_lsps.ensures ∙ sym (ap (λ (k : LspForm). candidates_of k a.«record».now a.prev) m.enum_told-1.given.1)
+    c.candidate_lsps.ensures ∙ sym (ap (λ (k : LspForm). candidates_of k a.«record».now a.prev) m.in-Values.is)
 
 returns-2 : tie.Need-returns-in-Index
 returns-2 c =
@@ -41,7 +41,7 @@ returns-2 c =
     let m = b1.before in
     let a = m.before.before.before.args in
     c.lsp_decode.ensures ∙ (λ i. decoded (b1.byte_field.ensures i) (b2.byte_field-in-Index.ensures i) (b3.byte_field-in-Index-2.ensures i) a.prev)
-    ∙ sym (ap (λ (k : LspForm). candidates_of k a.«record».now a.prev) m.enum_told-in-Index-1.given.1)
+    ∙ sym (ap (λ (k : LspForm). candidates_of k a.«record».now a.prev) m.in-Index.is)
 
 pub candidates_of_spec : {M : Type 1} → statement M
 candidates_of_spec =

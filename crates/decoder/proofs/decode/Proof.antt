@@ -19,7 +19,7 @@ module _ (c : tie.After-examine) where
   abbrev start : tie.Start
   start = c.before.before.before.before.before
 
-  whole : length start.args.samples-1.now ≡ 240
+  whole : length start.args.samples.now ≡ 240
   whole = c.before.before.before.if-samples-ne-FRAME_SIZE_SAMPLES.false
 
   sound : in_bounds start.args.given ≡ true
@@ -27,10 +27,10 @@ module _ (c : tie.After-examine) where
 
   -- what it is found to be
   found-is : {k : Found} → c.examine.result ≡ k → let a = start.args in
-      examined a.given a.«record».now a.samples-1.now ≡ k
+      examined a.given a.«record».now a.samples.now ≡ k
   found-is e =
       let a = start.args in
-      record_found_lem a.given a.«record».now a.samples-1.now whole sound (sym c.examine.ensures.0 ∙ e)
+      record_found_lem a.given a.«record».now a.samples.now whole sound (sym c.examine.ensures.0 ∙ e)
 
 refused-requires : tie.Need-refused-requires
 refused-requires c κs = tt
@@ -40,7 +40,7 @@ returns c =
     let t = c.before in
     let a = t.before.before.args in
     let r = a.«record».now in
-    let x = a.samples-1.now in
+    let x = a.samples.now in
     refused_promised a.given r x SampleLength (length_refused a.given r x t.if-samples-ne-FRAME_SIZE_SAMPLES.true) c.refused.ensures
 
 in-bounds-requires : tie.Need-in_bounds-requires
@@ -56,7 +56,7 @@ returns-2 c =
     let l = t.before.before in
     let a = l.before.before.args in
     let r = a.«record».now in
-    let x = a.samples-1.now in
+    let x = a.samples.now in
     let unsound = sym b.ensures ∙ not-true {b = b.result} t.if-not-in_bounds.true in
     let found = bounds_refused a.given r x l.if-samples-ne-FRAME_SIZE_SAMPLES.false unsound in
     refused_promised a.given r x StateBounds found c.refused-then-not-in_bounds.ensures
@@ -94,7 +94,7 @@ returns-3 c =
     let e = n.before.before in
     let a = (start e).args in
     let found = found-is e n.n-1.given.1 in
-    refused_promised a.given a.«record».now a.samples-1.now n.n-1.given.0.0 found c.refused-in-Refused.ensures
+    refused_promised a.given a.«record».now a.samples.now n.n-1.given.0.0 found c.refused-in-Refused.ensures
 
 same_length : tie.Need-shape_of-samples-in-Erased
 same_length c = c.before.decode_erased.auto.0
@@ -105,7 +105,7 @@ returns-4 c =
     let t = c.before.before.before in
     let e = t.before.before in
     let a = (start e).args in
-    erased_promised a.given a.«record».now a.samples-1.now (found-is e t.enum_told-1.given.1) d.ensures.0 d.ensures.1
+    erased_promised a.given a.«record».now a.samples.now (found-is e t.in-Erased.is) d.ensures.0 d.ensures.1
 
 same-length-2 : tie.Need-shape_of-samples-in-Received
 same-length-2 c = c.before.decode_received.auto.0
@@ -120,7 +120,7 @@ returns-5 c =
     let rate = t.rate-1.given.0.0 in
     let form = t.rate-1.given.0.1.0 in
     let r = c.before.decode_received.ensures in
-    received_promised a.given a.«record».now a.samples-1.now rate form (found-is e t.rate-1.given.1)
+    received_promised a.given a.«record».now a.samples.now rate form (found-is e t.rate-1.given.1)
     (r.0 ∙ (λ i. let y = l.candidates_of-candidates.ensures i in acceptance (received_checked a.given y).outcome (received_state a.given rate (f.fields-fields.ensures i) y)))
     (r.1 ∙ (λ i. received_samples a.given rate (f.fields-fields.ensures i) (l.candidates_of-candidates.ensures i)))
 

@@ -193,7 +193,7 @@ returns c =
       r.ensures.0 ∙ (λ i. acceptance (checked-is l i).outcome (frame_state g (checked-is l i).lsps (inputs-is n i) (x i) record {
         last_lag = back w32 t.before.struct_told-5-1.given.1.0.1 (λ j. (b Three j).lag) i;
         last_lag2 = back w32 t.struct_told-6-1.given.1.0.1 (λ j. (b Two j).lag) i;
-        last_taps_sum_q15 = back w32 sum.type_inv (sum.ensures ∙ (λ j. tap_sum_of (b Three j).taps-1)) i;
+        last_taps_sum_q15 = back w32 sum.type_inv (sum.ensures ∙ (λ j. tap_sum_of (b Three j).taps)) i;
         last_gain_unvoiced = back w32 gain.type_inv (gain.ensures ∙ (λ j. unvoiced (b Two j) (b Three j))) i;
         erased_run = 0;
       })),

@@ -48,30 +48,30 @@ module _ (c : tie.After-output_frame-f) where
       memory.narrow_memory-mem.ensures ∙ memory_narrowed given size start.requires.1
 
   sets-is : let a = start.args in
-      memory.before.before.frame_lpc_q13-sets.result ≡ frame_coefficients a.given.prev_lsp a.checked.lsps-1
+      memory.before.before.frame_lpc_q13-sets.result ≡ frame_coefficients a.given.prev_lsp a.checked.lsps
   sets-is = memory.before.before.frame_lpc_q13-sets.ensures
 
   abbrev sets : List (List ℤ)
   sets = memory.before.before.frame_lpc_q13-sets.result
 
   abbrev before : Filters
-  before = record { syn_mem = memory.narrow_memory-mem.result; pf = start.args.given.pf-1 }
+  before = record { syn_mem = memory.narrow_memory-mem.result; pf = start.args.given.pf }
 
-  output-is : let a = start.args in written ≡ frame_samples a.given a.checked.lsps-1 a.inputs
+  output-is : let a = start.args in written ≡ frame_samples a.given a.checked.lsps a.inputs
   output-is =
       let a = start.args in
       let g = a.given in
       c.output_frame-f.ensures.1
-      ∙ output_in_lem g.postfilter sets a.inputs before a.samples-1.now start.requires.0
-      ∙ (λ i. frame_output g.postfilter (sets-is i) a.inputs record { syn_mem = memory-is i; pf = g.pf-1 })
+      ∙ output_in_lem g.postfilter sets a.inputs before a.samples.now start.requires.0
+      ∙ (λ i. frame_output g.postfilter (sets-is i) a.inputs record { syn_mem = memory-is i; pf = g.pf })
 
-  filters-is : let a = start.args in c.output_frame-f.result ≡ filters_last a.given a.checked.lsps-1 a.inputs
+  filters-is : let a = start.args in c.output_frame-f.result ≡ filters_last a.given a.checked.lsps a.inputs
   filters-is =
       let a = start.args in
       let g = a.given in
       c.output_frame-f.ensures.0
-      ∙ filters_in_lem g.postfilter sets a.inputs before a.samples-1.now start.requires.0
-      ∙ (λ i. frame_filters g.postfilter (sets-is i) a.inputs record { syn_mem = memory-is i; pf = g.pf-1 })
+      ∙ filters_in_lem g.postfilter sets a.inputs before a.samples.now start.requires.0
+      ∙ (λ i. frame_filters g.postfilter (sets-is i) a.inputs record { syn_mem = memory-is i; pf = g.pf })
 
 sub-pcm-history : tie.Need-slice_bounds-pcm_history-count
 sub-pcm-history c = omega arith
@@ -108,10 +108,10 @@ returns c =
     let size = output-length o in
     let tail = take_all 120 (drop 120 (written o)) (omega (arith, length-drop 120 (written o), size)) in (
       (λ i. acceptance a.checked.outcome record {
-        prev_lsp = a.checked.lsps-1;
+        prev_lsp = a.checked.lsps;
         exc_hist = h.history_after-history.ensures i;
         syn_mem = (w.widen_memory-after.ensures ∙ (λ j. (f j).syn_mem)) i;
-        pf = (f i).pf-1;
+        pf = (f i).pf;
         last_lag = read_back w32 a.last.last_lag told.0.1 i;
         last_lag2 = read_back w32 a.last.last_lag2 told.1.0.1 i;
         last_taps_sum_q15 = read_back w32 a.last.last_taps_sum_q15 told.1.1.0.1 i;

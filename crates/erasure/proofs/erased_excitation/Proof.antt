@@ -45,7 +45,7 @@ returns c =
     let gain = back w16 g.attenuated_gain.type_inv (g.attenuated_gain.ensures ∙ read) in
     c.noise_frame.ensures
     ∙ (λ i. in_turn (noise_to (gain i) (n.noise_start.ensures i)) a.signal)
-    ∙ sym (ap (λ (v : Voicing). erased_excitation v a.tap-sum a.gain a.run a.signal) told.enum_told-1.given.1)
+    ∙ sym (ap (λ (v : Voicing). erased_excitation v a.tap-sum a.gain a.run a.signal) told.in-Unvoiced.is)
 
 returns-2 : tie.Need-returns-in-Voiced
 unfolding erased_excitation

@@ -28,10 +28,10 @@ less-requires : tie.Need-less-requires
 less-requires c κs = tt
 
 returns : tie.Need-returns-in-None
-returns c = chosen_none c.enum_told-1.given.1
+returns c = chosen_none c.in-None.is
 
 returns-2 : tie.Need-returns-in-None-b
-returns-2 c = chosen-first c.before.before.before.f-1.given.1 c.enum_told-in-None-b-1.given.1
+returns-2 c = chosen-first c.before.before.before.f-1.given.1 c.in-None-b.is
 
 -- the two floors, as code compares them
 module _ (c : tie.After-less) where

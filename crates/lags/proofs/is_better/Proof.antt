@@ -26,7 +26,7 @@ less-requires : tie.Need-less-requires
 less-requires c κs = tt
 
 returns : tie.Need-returns-in-None
-returns c = let a = c.before.before.args in sym (ap (λ (b : Best). beats b a.c a.d) c.enum_told-1.given.1)
+returns c = let a = c.before.before.args in sym (ap (λ (b : Best). beats b a.c a.d) c.in-None.is)
 
 returns-2 : tie.Need-returns-in-Lag
 returns-2 c =

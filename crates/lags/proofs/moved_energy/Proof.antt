@@ -81,14 +81,14 @@ returns : tie.Need-returns-in-Forward
 returns c =
     let t = c.before.before in
     let a = t.before.before.args in
-    let moved = sym (ap (λ (to : Direction). energy a.x.now (next to a.q) 60) t.enum_told-1.given.1) in
+    let moved = sym (ap (λ (to : Direction). energy a.x.now (next to a.q) 60) t.in-Forward.is) in
     ((ahead c).1 ∙ moved, omega (arith, c.before.square_at.ensures.1))
 
 returns-2 : tie.Need-returns-in-Backward
 returns-2 c =
     let t = c.before.before in
     let a = t.before.before.args in
-    let moved = sym (ap (λ (to : Direction). energy a.x.now (next to a.q) 60) t.enum_told-in-Backward-1.given.1) in
+    let moved = sym (ap (λ (to : Direction). energy a.x.now (next to a.q) 60) t.in-Backward.is) in
     ((behind c).1 ∙ moved, omega (arith, c.before.square_at-in-Backward.ensures.1))
 
 pub moved_energy_spec : {M : Type 1} → statement M

@@ -41,7 +41,7 @@ loop-again c =
     let xs = l.before.before.args.part.now in
     let i = l.loop-i.i in
     let now = line_of l.loop-i.text l.loop-i.len l.loop-i.over in
-    let next = line_of c.if-len-lt-LINE_MAX.text-1 c.if-len-lt-LINE_MAX.len c.if-len-lt-LINE_MAX.over in
+    let next = line_of c.if-len-lt-LINE_MAX.text c.if-len-lt-LINE_MAX.len c.if-len-lt-LINE_MAX.over in
     let e : pushed now (get_or xs i 0) ≡ next =
     ⊎_elim (λ w. push_kept l.loop-i.text l.loop-i.len l.loop-i.over (get_or xs i 0) w.0.taken ∙ (λ k. line_of (sym w.2 k) (sym w.3 k) (sym w.4 k)))
     (λ w. push_over l.loop-i.text l.loop-i.len l.loop-i.over (get_or xs i 0) w.0.left ∙ (λ k. line_of (sym w.1 k) (sym w.2 k) (sym w.3 k)))

@@ -34,9 +34,9 @@ returns c =
     let n = p.before.before.before in
     let a = n.before.before.before.before.before.args in
     let e = n.newline-end.ensures in
-    let l : p.part_reply-a.result ≡ line_reply (longer a.given a.input.now).line-1 a.given.state-1 =
-    p.part_reply-a.ensures ∙ ap (λ (k : ℕ). line_reply (pushed_all a.given.line-1 (take k a.input.now)) a.given.state-1) e in
-    c.progress_by.ensures ∙ (λ i. progress_by a.given.tallies-1 p.part_reply-a.result (e i + 1)) ∙ progress_ended a.given a.input.now p.part_reply-a.result (omega (arith, e)) l
+    let l : p.part_reply-a.result ≡ line_reply (longer a.given a.input.now).line a.given.state =
+    p.part_reply-a.ensures ∙ ap (λ (k : ℕ). line_reply (pushed_all a.given.line (take k a.input.now)) a.given.state) e in
+    c.progress_by.ensures ∙ (λ i. progress_by a.given.tallies p.part_reply-a.result (e i + 1)) ∙ progress_ended a.given a.input.now p.part_reply-a.result (omega (arith, e)) l
 
 append-requires : tie.Need-append-longer-requires
 append-requires c κs = tt
@@ -51,8 +51,8 @@ returns-2 c =
     let a = n.before.before.before.before.before.args in
     let e = n.newline-end.ensures in
     let g : length a.input.now ≤ newline_at a.input.now = omega (arith, e) in
-    let l : p.append-longer.result ≡ (longer a.given a.input.now).line-1 =
-    p.append-longer.ensures ∙ ap (pushed_all a.given.line-1) (sym (take_all (newline_at a.input.now) a.input.now g)) in
+    let l : p.append-longer.result ≡ (longer a.given a.input.now).line =
+    p.append-longer.ensures ∙ ap (pushed_all a.given.line) (sym (take_all (newline_at a.input.now) a.input.now g)) in
     (λ i. record { stream = with_line a.given p.append-longer.result; text = c.no_text.result; used = e i })
     ∙ progress_going a.given a.input.now (with_line a.given p.append-longer.result) c.no_text.result g (ap (with_line a.given) l) c.no_text.ensures
 

@@ -8,8 +8,8 @@ returns : tie.Need-returns-then-samples-ne-FRAME_SIZE_SAMPLES
 returns c =
     let a = c.before.args in
     let other = c.if-samples-ne-FRAME_SIZE_SAMPLES.true in (
-      sym (filters_kept a.on a.sets a.inputs a.f a.samples-1.now other),
-      sym (samples-kept a.on a.sets a.inputs a.f a.samples-1.now other),
+      sym (filters_kept a.on a.sets a.inputs a.f a.samples.now other),
+      sym (samples-kept a.on a.sets a.inputs a.f a.samples.now other),
     )
 
 output-subframes-requires : tie.Need-output_subframes-requires
@@ -23,8 +23,8 @@ returns-2 c =
     let i = c.before.before.before in
     let a = i.before.args in
     let e = c.before.output_subframes.ensures in (
-      e.0 ∙ sym (filters_in_lem a.on a.sets a.inputs a.f a.samples-1.now i.if-samples-ne-FRAME_SIZE_SAMPLES.false),
-      e.1 ∙ sym (output_in_lem a.on a.sets a.inputs a.f a.samples-1.now i.if-samples-ne-FRAME_SIZE_SAMPLES.false),
+      e.0 ∙ sym (filters_in_lem a.on a.sets a.inputs a.f a.samples.now i.if-samples-ne-FRAME_SIZE_SAMPLES.false),
+      e.1 ∙ sym (output_in_lem a.on a.sets a.inputs a.f a.samples.now i.if-samples-ne-FRAME_SIZE_SAMPLES.false),
     )
 
 pub output_frame_spec : {M : Type 1} → statement M

@@ -27,7 +27,7 @@ returns c =
     let y = (synthesis-of t.before).synthesis_subframe-y in
     let a = (start_of t.before).args in
     let off = t.if-not-on.true in (
-      (λ i. record { syn_mem = y.ensures.1 i; pf = a.f.pf-1 }) ∙ memories_off a.on a.a a.x a.f off,
+      (λ i. record { syn_mem = y.ensures.1 i; pf = a.f.pf }) ∙ memories_off a.on a.a a.x a.f off,
       c.before.write_samples.ensures ∙ y.ensures.0 ∙ output-off a.on a.a a.x a.f off,
     )
 
@@ -49,8 +49,8 @@ returns-2 c =
     let a = (start_of t.before).args in
     let on = t.if-not-on.false in
     let f = z.postfilter_subframe-z.ensures in
-    let passed = f.1 ∙ ap (postfilter_after a.f.pf-1 a.a) y.ensures.0 in
-    let written = f.0 ∙ ap (filtered a.f.pf-1 a.a) y.ensures.0 in (
+    let passed = f.1 ∙ ap (postfilter_after a.f.pf a.a) y.ensures.0 in
+    let written = f.0 ∙ ap (filtered a.f.pf a.a) y.ensures.0 in (
       (λ i. record { syn_mem = y.ensures.1 i; pf = passed i }) ∙ memories_on a.on a.a a.x a.f on,
       w.write_samples-2.ensures ∙ written ∙ output_on a.on a.a a.x a.f on,
     )

@@ -21,7 +21,7 @@ loop-holds : tie.Need-loop-s-init invariant-loop decreases-loop
 loop-holds c =
     let a = c.args in (
       omega arith,
-      written_start a.on a.sets a.inputs a.f a.samples-1.now,
+      written_start a.on a.sets a.inputs a.f a.samples.now,
       c.requires,
       filters_zero a.on a.sets a.inputs a.f,
     )
@@ -75,7 +75,7 @@ loop-again c =
     let v = l.loop-s.invariant in
     let r = c.before.output_subframe-after in
     let m = 60 * k + 60 - 60 * k in
-    let o = a.samples-1.now in
+    let o = a.samples.now in
     let x = l.loop-s.samples in
     let part = r.ensures.1 ∙ ap (subframe_output a.on (get_or a.sets k []) (get_or a.inputs k [])) v.3 in
     let passed = r.ensures.0 ∙ ap (filters_after a.on (get_or a.sets k []) (get_or a.inputs k [])) v.3 in
@@ -96,7 +96,7 @@ returns c =
     let v = c.before.loop-s.invariant in
     let e : c.before.loop-s.s ≡ 4 = omega arith in (
       v.3 ∙ ap (filters_at a.on a.sets a.inputs a.f) e,
-      v.1 ∙ written_end a.on a.sets a.inputs a.f a.samples-1.now c.before.loop-s.s c.before.before.requires e,
+      v.1 ∙ written_end a.on a.sets a.inputs a.f a.samples.now c.before.loop-s.s c.before.before.requires e,
     )
 
 pub output_subframes_spec : {M : Type 1} → statement M

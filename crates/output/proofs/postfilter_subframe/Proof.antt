@@ -60,7 +60,7 @@ use Rattle.output.proofs.postfilter_subframe.Statement as stated
 use Rattle.output.proofs.postfilter_subframe.Code as code
 
 -- at exit nothing is had of the parameters
-abbrev stayed : Stays (here.ended).signature.params (here.ended).kept-1
+abbrev stayed : Stays (here.ended).signature.params (here.ended).kept
 stayed = (stay_dropped (plain (λ _. P.the_row)) yes, both_stay 0)
 
 -- ---- the answer: its machine value, and what is known of it

@@ -76,7 +76,7 @@ levelled-subframe-requires c κs = c.mixed_subframe.ensures.1
 returns-2 : tie.Need-returns-in-None
 returns-2 c =
     let a = c.before.before.before.args in
-    c.subframe.ensures ∙ applied-none a.x.now a.rate a.p a.t a.k c.before.enum_told-1.given.1
+    c.subframe.ensures ∙ applied-none a.x.now a.rate a.p a.t a.k c.before.in-None.is
 
 returns-3 : tie.Need-returns-else-too_weak
 returns-3 c =

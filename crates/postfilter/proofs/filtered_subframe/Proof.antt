@@ -57,7 +57,7 @@ module _ (s : tie.Start) where
 
 -- ---- what each call answers, of the memory and the subframe
 
-formant-is : (c : tie.After-formant_subframe-f) → let a = (start_of c).args in c.formant_subframe-f.result.out-1 ≡ formant_of a.pf a.a a.y
+formant-is : (c : tie.After-formant_subframe-f) → let a = (start_of c).args in c.formant_subframe-f.result.out ≡ formant_of a.pf a.a a.y
 formant-is c = c.formant_subframe-f.ensures.0
 
 energy-is : (c : tie.After-energy_from-r0) → let a = (start_of (filter-of c)).args in c.energy_from-r0.result ≡ nat_abs (energy a.y 0 60)
@@ -67,7 +67,7 @@ tilt-is : (c : tie.After-smoothed_tilt-k1) → let a = (start_of (filter-of (ene
     to_z w16 (of_z w16 c.smoothed_tilt-k1.result) ≡ tilt_after a.pf a.a a.y
 tilt-is c =
     let q = correlation-of c in
-    let r1 = back w64 q.correlate-r1.ok q.correlate-r1.ensures.0 in
+    let r1 = back w64 q.correlate-r1.type_inv q.correlate-r1.ensures.0 in
     let r0 = energy-is (energy-of q) in
     let t = c.before.before.tilt_quotient in
     let k = back w32 t.type_inv (t.ensures ∙ (λ i. tilt_of (r1 i) (r0 i))) in
@@ -110,7 +110,7 @@ correlate-requires c κs = tt
 tilt-quotient-requires : tie.Need-tilt_quotient-requires
 tilt-quotient-requires c κs =
     let r = c.correlate-r1 in
-    (within-is (is-mag r.result r.type_inv) (within_weaken r.ensures.1 tt), omega (arith, (energy-of c).energy_from-r0.ensures.1))
+    (within-is {w = w64} (is-mag r.result r.type_inv) (within_weaken r.ensures.1 tt), omega (arith, (energy-of c).energy_from-r0.ensures.1))
 
 smoothed-tilt-requires : tie.Need-smoothed_tilt-k1-requires
 smoothed-tilt-requires c κs =

@@ -51,7 +51,7 @@ returns : tie.Need-returns-then-not-write invariant-loop decreases-loop
 returns c =
     let f = c.before.before.before.before.before.before in
     let l = f.before.before.before in
-    (λ e. clash {b = true} refl (sym e), reached-more l.before.before.args.given l.loop-at.stream f.feed-f.result.stream-1 _ l.loop-at.invariant.2 (progress_carried l.loop-at.stream (drop l.loop-at.at l.before.before.args.input.now) f.feed-f.result (progress f)))
+    (λ e. clash {b = true} refl (sym e), reached-more l.before.before.args.given l.loop-at.stream f.feed-f.result.stream _ l.loop-at.invariant.2 (progress_carried l.loop-at.stream (drop l.loop-at.at l.before.before.args.input.now) f.feed-f.result (progress f)))
 
 add_at : tie.Need-overflow_add-at invariant-loop decreases-loop
 add_at c =
@@ -79,8 +79,8 @@ loop-again c =
     let rest = drop l.loop-at.at xs in
     let u = progress_used l.loop-at.stream rest f.feed-f.result (progress f) in (
       omega (arith, u.0, length-drop l.loop-at.at xs),
-      l.loop-at.invariant.1 ∙ progress_step l.loop-at.stream rest f.feed-f.result (progress f) ∙ ap (stream_after f.feed-f.result.stream-1) (drop-drop f.feed-f.result.used l.loop-at.at xs),
-      reached-more l.before.before.args.given l.loop-at.stream f.feed-f.result.stream-1 _ l.loop-at.invariant.2 (progress_carried l.loop-at.stream rest f.feed-f.result (progress f)),
+      l.loop-at.invariant.1 ∙ progress_step l.loop-at.stream rest f.feed-f.result (progress f) ∙ ap (stream_after f.feed-f.result.stream) (drop-drop f.feed-f.result.used l.loop-at.at xs),
+      reached-more l.before.before.args.given l.loop-at.stream f.feed-f.result.stream _ l.loop-at.invariant.2 (progress_carried l.loop-at.stream rest f.feed-f.result (progress f)),
     )
 
 returns-2 : tie.Need-returns invariant-loop decreases-loop

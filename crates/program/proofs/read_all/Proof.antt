@@ -4,7 +4,7 @@ use Rattle.program.proofs.read_all.Statement.{statement}
 use Rattle.program.proofs.read_all.Tie as tie
 
 abbrev invariant-loop : tie.invariant-loop-turns
-invariant-loop now₀ turns₀ now turns = Reached now₀.stream-1 now.stream-1
+invariant-loop now₀ turns₀ now turns = Reached now₀.stream now.stream
 
 abbrev decreases-loop : tie.decreases-loop-turns
 decreases-loop now₀ turns₀ now turns = turns
@@ -25,7 +25,7 @@ loop-again : tie.Need-loop-turns-preserved invariant-loop decreases-loop
 loop-again c =
     let l = c.before.before.before.before in
     let e = c.read_piece-next.ensures in
-    reached-more l.before.args.given l.loop-turns.now.stream-1 c.read_piece-next.result.stream-1 e.0 l.loop-turns.invariant e.1
+    reached-more l.before.args.given l.loop-turns.now.stream c.read_piece-next.result.stream e.0 l.loop-turns.invariant e.1
 
 returns : tie.Need-returns-else-now invariant-loop decreases-loop
 returns c = c.before.before.loop-turns.invariant

@@ -39,14 +39,14 @@ returns c =
     let m = c.before.before in
     let a = m.before.before.before.args in
     c.mpmlq_fixed_vector.ensures ∙ ap vector c.before.pulse_description.ensures
-    ∙ sym (ap (λ (k : Rate). fixed k a.fields.now a.s) m.enum_told-1.given.1)
+    ∙ sym (ap (λ (k : Rate). fixed k a.fields.now a.s) m.in-High.is)
 
 returns-2 : tie.Need-returns-in-Low
 returns-2 c =
     let m = c.before.before in
     let a = m.before.before.before.args in
     c.values_at.ensures ∙ (λ i. words a.fields.now (c.before.block_place.ensures i + 11) 60)
-    ∙ sym (ap (λ (k : Rate). fixed k a.fields.now a.s) m.enum_told-in-Low-1.given.1)
+    ∙ sym (ap (λ (k : Rate). fixed k a.fields.now a.s) m.in-Low.is)
 
 pub fixed_vector_spec : {M : Type 1} → statement M
 fixed_vector_spec =

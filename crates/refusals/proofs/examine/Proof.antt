@@ -112,7 +112,7 @@ returns-4 c = arm c.before Erased c.in-0.keys1 refl refl
 
 returns-5 : tie.Need-returns-in-1
 unfolding found_of
-returns-5 c = let m = c.before in let f = c.record_found in arm m.before f.result m.in-1.keys2 f.ensures.0 f.ensures.1
+returns-5 c = let m = c.before in let f = c.record_found in arm m.before f.result m.in.keys2 f.ensures.0 f.ensures.1
 
 returns-6 : tie.Need-returns-in-2
 unfolding found_of

@@ -8,7 +8,7 @@ returns : tie.Need-returns-in-0
 returns c = sym (ap record_bytes c.in-0.keys1)
 
 returns-2 : tie.Need-returns-in-1
-returns-2 c = sym (ap record_bytes c.in-1.keys2)
+returns-2 c = sym (ap record_bytes c.in.keys2)
 
 returns-3 : tie.Need-returns-in-2
 returns-3 c = sym (ap record_bytes c.in-2.keys3)

@@ -54,7 +54,7 @@ as_read b e = ap (between b.least b.most) e
 -- each in turn, read from the field's bits where the tests before it held
 gain : (c : tie.After-is_between) → c.is_between.result ≡ test (state c) 0
 gain c =
-    let read = read_back w32 (state c).pf-1.agc_gain_q12 c.before.struct_told-1.given.1.1.1.1.0.1 in
+    let read = read_back w32 (state c).pf.agc_gain_q12 c.before.struct_told-1.given.1.1.1.1.0.1 in
     c.is_between.ensures ∙ as_read (number (state c) 0) read
 
 lag : (c : tie.Joined-is_between) → c.if-is_between.if-is_between-2 ≡ to1 (state c.before)
