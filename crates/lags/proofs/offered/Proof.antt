@@ -91,7 +91,7 @@ module _ (r : tie.After-correlate-s) where
       ∙ ap (λ (q : ℕ). correlation (x start) (p start) (x start) q 60) start.requires.1.0
 
   small : Within (60 * 2 ^ 30) read
-  small = within-is (is-mag r.correlate-s.result r.correlate-s.type_inv) r.correlate-s.ensures.1
+  small = within-is {w = w64} (is-mag r.correlate-s.result r.correlate-s.type_inv) r.correlate-s.ensures.1
 
   alike : (t : Bool) → le_z read (pos 0) ≡ t → lt_z (pos 0) meant ≡ not t
   alike t e = sym (ap (lt_z (pos 0)) read_is) ∙ lt_z_not_le_z read (pos 0) ∙ ap not e

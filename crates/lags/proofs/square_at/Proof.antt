@@ -29,13 +29,13 @@ module _ (c : tie.After-v-1) where
   small = within-mag w16 sample c.v-1.given
 
   is-sample : Is w32 (of_z w32 (to_z w16 (of_z w16 sample))) sample
-  is-sample = is-cast (is-mag sample c.v-1.given) (fits-within small tt)
+  is-sample = is-cast {w = w16} (is-mag sample c.v-1.given) (fits-within small tt)
 
   square : Within (2 ^ 30) (sample *ℤ sample)
   square = within-mul small small
 
 cast-v : tie.Need-overflow_cast-v
-cast-v c = need_cast (is-mag (sample c) c.v-1.given) (fits-within (small c) tt)
+cast-v c = need_cast {w = w16} (is-mag (sample c) c.v-1.given) (fits-within (small c) tt)
 
 mul-result : tie.Need-overflow_mul-result
 mul-result c = need_mul (is-sample c) (is-sample c) (fits-within (square c) tt)
