@@ -23,7 +23,7 @@ less-requires c κs = tt
 -- both count
 module _ (c : tie.After-less) (t : Bool) (h : c.less.result ≡ t) where
   abbrev f : tie.Else-not-a
-  f = c.before.before
+  f = c.before.before.before
 
   abbrev e : tie.Else-not-b
   e = f.before.before
