@@ -1,4 +1,4 @@
--- The record reader refers to the record's bytes and keeps a cursor (document 01, "What changes shape"). What its functions promise, each fact once: the contracts and the walks that prove them cite these.
+-- The record reader refers to the record's bytes and keeps a cursor (document 01, "What changes shape"). What its functions promise, each fact once: the contracts cite these.
 use Rattle.std.specs.Prelude.{◌≡◌, List, ℕ, ◌+◌, ◌-◌, ◌^◌, min}
 use Rattle.std.specs.Borrow.{Bor}
 use Rattle.reader.specs.declared.Reader.{Reader}

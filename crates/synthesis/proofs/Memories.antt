@@ -33,7 +33,7 @@ module _ {past memory : List ℤ} (m : Remembers past memory) where
       y ∷ past ≡ next → answer ≡ y ∷ take 9 memory → Remembers next answer
   memory_step z h e r =
       let y = to_z w16 (of_z w16 z) in
-      let f : SFits w16 y = need_cast (is-mag z h) (record { sfits = h }) in
+      let f : SFits w16 y = need_cast {w = w16} (is-mag z h) (record { sfits = h }) in
       record {
         front = r ∙ ap (λ (q : List ℤ). y ∷ q) (ap (take 9) m.front ∙ take-take 9 10 past (omega arith)) ∙ ap (take 10) e;
         fit = subst (AllFit w16) (sym r) (all_fit-cons f (all_fit-take 9 m.fit));

@@ -36,7 +36,10 @@ lag-is : (c : tie.After-limited_lag-l invariant-loop decreases-loop) → c.limit
 lag-is c = c.limited_lag-l.ensures ∙ ap limited_lag (to_z-of_z {w = w32} c.before.before.ranges.lag)
 
 delayed-samples-requires : tie.Need-delayed_samples-e-requires invariant-loop decreases-loop
-delayed-samples-requires c κs = record { le_p = rw c.before.subframe_place-p.ensures (subframe_place_bounds c.before.before.args.s); le_l = rw (lag-is c) (limited-lag_bounds c.before.before.args.lag) }
+delayed-samples-requires c κs = (
+  rw c.before.subframe_place-p.ensures (subframe_place_bounds c.before.before.args.s),
+  rw (lag-is c) (limited-lag_bounds c.before.before.args.lag),
+)
 
 loop-holds : tie.Need-loop-n-init invariant-loop decreases-loop
 loop-holds c = fills_start refl
@@ -51,7 +54,7 @@ correlate-requires : tie.Need-correlate-sum-requires invariant-loop decreases-lo
 correlate-requires c κs = tt
 
 rounded-tap-sum-requires : tie.Need-rounded_tap_sum-requires invariant-loop decreases-loop
-rounded-tap-sum-requires c κs = let r = c.correlate-sum in within-is (is-mag r.result r.type_inv) r.ensures.1
+rounded-tap-sum-requires c κs = let r = c.correlate-sum in within-is {w = w64} (is-mag r.result r.type_inv) r.ensures.1
 
 mul-u : tie.Need-offset_bounds-u-n invariant-loop decreases-loop
 mul-u c = omega arith
@@ -88,12 +91,12 @@ module _ (c : tie.After-correlate-sum invariant-loop decreases-loop) where
   sum_is : to_z w64 (of_z w64 c.correlate-sum.result) ≡ sum_to (λ j. entry taps j *ℤ delayed x p l (i.loop-n.n + j)) acb_taps
   sum_is =
       let read = ap (λ (e : List ℤ). correlation taps 0 e i.loop-n.n acb_taps) d.delayed_samples-e.ensures in
-      back w64 c.correlate-sum.type_inv (c.correlate-sum.ensures.value ∙ read ∙ delayed-sum x p l taps i.loop-n.n c.before.before.before.loop-n-test.true)
+      back w64 c.correlate-sum.type_inv (c.correlate-sum.ensures.0 ∙ read ∙ delayed-sum x p l taps i.loop-n.n c.before.before.before.loop-n-test.true)
 
 loop-again : tie.Need-loop-n-preserved invariant-loop decreases-loop
 loop-again c =
     let rounded = c.rounded_tap_sum.ensures ∙ (λ k. floor_div (sum_is c.before k +ℤ pos 8192) 16384) in
-    fills_next (i c.before).loop-n.inv (omega arith) (back w32 c.rounded_tap_sum.type_inv rounded)
+    fills_next (i c.before).loop-n.invariant (omega arith) (back w32 c.rounded_tap_sum.type_inv rounded)
 
 returns : tie.Need-returns invariant-loop decreases-loop
 unfolding adaptive
@@ -101,7 +104,7 @@ returns c =
     let d = c.before.before in
     let a = d.before.before.before.args in
     fills_end c.before.loop-n.invariant c.loop-n-test.false
-    ∙ (λ k. tabulate (adaptive_sample a.signal.now (d.before.before.subframe_place-p.ensures k) (lag-is d.before k) a.t4) 60)
+    ∙ (λ k. tabulate (adaptive_sample a.signal.now (d.before.before.subframe_place-p.ensures k) (lag-is d.before k) a.taps) 60)
 
 pub acb_contribution_spec : {M : Type 1} → statement M
 acb_contribution_spec =

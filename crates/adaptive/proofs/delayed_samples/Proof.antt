@@ -77,9 +77,9 @@ loop-again c =
     let m = i.loop-m.m in
     let inv = i.loop-m.invariant in
     let filled = fills_at inv (m - l) (pos 0) in
-    ⊎_elim (λ w. rw w.2 (fills_next inv (omega arith) (back w16 w.1.given (delayed-first x p l m (omega arith) w.0.taken))))
-    (λ w. rw w.2 (fills_next inv (omega arith) (back w16 w.1.given (filled (omega arith) ∙ delayed-again x p l m w.0.left))))
-    c.if-m-l.branch
+    ⊎_elim (λ w. rw w.e-is (fills_next inv (omega arith) (back w16 w.e-1.given (delayed-first x p l m (omega arith) w.if-m-l.true))))
+    (λ w. rw w.e-is (fills_next inv (omega arith) (back w16 w.e-else-m-l-1.given (filled (omega arith) ∙ delayed-again x p l m w.if-m-l.false))))
+    c.if-m-l.branch-raw
 
 returns : tie.Need-returns invariant-loop decreases-loop
 returns c = fills_end c.before.loop-m.invariant c.loop-m-test.false

@@ -28,7 +28,10 @@ returns c =
     let k = c.before.reach-k.result in
     let few : k ≤ a.n = omega arith in
     let all = reach_or_end a.n k (length a.x.now - a.a) (length a.y.now - a.b) (omega arith) in
-    let e = c.sum_of_products.ensures in record { value = back w64 c.sum_of_products.type_inv (e.value ∙ correlation_reach a.x.now a.a a.y.now a.b k a.n few all); within = subst (Within (a.n * 2 ^ 30)) (sym (read_back w64 c.sum_of_products.result c.sum_of_products.type_inv)) (within-le e.within (mul-le-mul_right (2 ^ 30) few)) }
+    let e = c.sum_of_products.ensures in (
+      back w64 c.sum_of_products.type_inv (e.0 ∙ correlation_reach a.x.now a.a a.y.now a.b k a.n few all),
+      subst (Within (a.n * 2 ^ 30)) (sym (read_back w64 c.sum_of_products.result c.sum_of_products.type_inv)) (within-le e.1 (mul-le-mul_right (2 ^ 30) few)),
+    )
 
 pub correlate_spec : {M : Type 1} → statement M
 correlate_spec = tie.close (tie.spec reach-requires reach-requires-2 sum-of-products-requires returns)

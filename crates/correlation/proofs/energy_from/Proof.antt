@@ -36,7 +36,7 @@ module _ (c : tie.After-sum_of_products) where
       let k = c.before.reach-m.result in
       let l = length a.x.now - a.a in
       let all = reach_or_end a.n k l l (omega arith) in
-      back w64 c.sum_of_products.type_inv (c.sum_of_products.ensures.value ∙ correlation_reach a.x.now a.a a.x.now a.a k a.n few all)
+      back w64 c.sum_of_products.type_inv (c.sum_of_products.ensures.0 ∙ correlation_reach a.x.now a.a a.x.now a.a k a.n few all)
 
   not_negative : T (non_neg sum) × (pos (nat_abs sum) ≡ sum)
   not_negative = let a = c.before.before.args in let n = natural sum (subst (λ (z : ℤ). pos 0 ≤ℤ z) (sym sum_is) (energy-nonneg a.x.now a.a a.n)) in (n.0, n.1)
@@ -44,13 +44,13 @@ module _ (c : tie.After-sum_of_products) where
   small : Within (c.before.before.args.n * 2 ^ 30) sum
   small =
       subst (Within (c.before.before.args.n * 2 ^ 30)) (sym (read_back w64 c.sum_of_products.result c.sum_of_products.type_inv))
-      (within-le c.sum_of_products.ensures.within (mul-le-mul_right (2 ^ 30) few))
+      (within-le c.sum_of_products.ensures.1 (mul-le-mul_right (2 ^ 30) few))
 
 cast-result : tie.Need-overflow_cast-result
 cast-result c = ((not_negative c).0, record { fits = omega (arith, (small c).within) })
 
 returns : tie.Need-returns
-returns c = record { result_value = (not_negative c).1 ∙ sum_is c; upper_bound = (small c).within }
+returns c = ((not_negative c).1 ∙ sum_is c, (small c).within)
 
 pub energy_from_spec : {M : Type 1} → statement M
 energy_from_spec = tie.close (tie.spec reach-requires sum-of-products-requires cast-result returns)

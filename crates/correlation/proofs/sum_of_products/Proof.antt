@@ -100,11 +100,11 @@ module _ (c : tie.After-low_part-l invariant-loop decreases-loop) where
   abbrev l : ℤ
   l = to_z w32 (of_z w32 c.low_part-l.result)
 
-  high_fits : SFits w32 (to_z w32 at-loop.loop-i.high +ℤ h)
-  high_fits = sums-fits 255 at-loop.loop-i.inv.1 (omega arith) (to_z w32 (of_z w32 c.before.high_part-h.result)) high_small (lit< tt)
+  high_fits : SFits w32 (to_z w32 at-loop.loop-i.high-bits +ℤ h)
+  high_fits = sums-fits 255 at-loop.loop-i.invariant.1 (omega arith) (to_z w32 (of_z w32 c.before.high_part-h.result)) high_small (lit< tt)
 
-  low_fits : SFits w32 (to_z w32 at-loop.loop-i.low +ℤ l)
-  low_fits = sums-fits 255 at-loop.loop-i.inv.2 (omega arith) (to_z w32 (of_z w32 c.low_part-l.result)) low_small (lit< tt)
+  low_fits : SFits w32 (to_z w32 at-loop.loop-i.low-bits +ℤ l)
+  low_fits = sums-fits 255 at-loop.loop-i.invariant.2 (omega arith) (to_z w32 (of_z w32 c.low_part-l.result)) low_small (lit< tt)
 
 add-high : tie.Need-overflow_add-high invariant-loop decreases-loop
 add-high c = high_fits c
@@ -122,9 +122,9 @@ loop-again : tie.Need-loop-i-preserved invariant-loop decreases-loop
 loop-again c =
     let k = (at-loop c).loop-i in (
       omega arith,
-      sums_next k.inv.1 (h c) (to_z w32 k.high +ℤ h c) (high_small c) (high_is c) refl (high_fits c).sfits,
-      sums_next k.inv.2 (l c) (to_z w32 k.low +ℤ l c) (low_small c) (low-is c) refl (low_fits c).sfits,
-      bounded-next (f c) k.i k.inv.3 (term-within c),
+      sums_next k.invariant.1 (h c) (to_z w32 k.high-bits +ℤ h c) (high_small c) (high_is c) refl (high_fits c).sfits,
+      sums_next k.invariant.2 (l c) (to_z w32 k.low-bits +ℤ l c) (low_small c) (low-is c) refl (low_fits c).sfits,
+      bounded-next (f c) k.i k.invariant.3 (term-within c),
     )
 
 joined-requires : tie.Need-joined-requires invariant-loop decreases-loop
@@ -138,7 +138,10 @@ returns c =
     let e : l.loop-i.i ≡ a.n = omega arith in
     let r = to_z w64 (of_z w64 c.joined.result) in
     let is : r ≡ sum_to f l.loop-i.i =
-    back w64 c.joined.type_inv (c.joined.ensures ∙ (λ k. l.loop-i.invariant.1.is k *ℤ pos 65536 +ℤ l.loop-i.invariant.2.is k) ∙ parts_sum f l.loop-i.i) in record { value = is ∙ ap (sum_to f) e ∙ sym (correlation-is a.x.now a.a a.y.now a.b a.n); within = subst (λ (n : ℕ). Within (n * 2 ^ 30) r) e (subst (Within (l.loop-i.i * 2 ^ 30)) (sym is) l.loop-i.invariant.3) }
+    back w64 c.joined.type_inv (c.joined.ensures ∙ (λ k. l.loop-i.invariant.1.is k *ℤ pos 65536 +ℤ l.loop-i.invariant.2.is k) ∙ parts_sum f l.loop-i.i) in (
+      is ∙ ap (sum_to f) e ∙ sym (correlation-is a.x.now a.a a.y.now a.b a.n),
+      subst (λ (n : ℕ). Within (n * 2 ^ 30) r) e (subst (Within (l.loop-i.i * 2 ^ 30)) (sym is) l.loop-i.invariant.3),
+    )
 
 pub sum_of_products_spec : {M : Type 1} → statement M
 sum_of_products_spec =

@@ -31,7 +31,7 @@ array-read-number-closed : tie.Need-bounds-tallies-n invariant-loop decreases-lo
 array-read-number-closed c = omega arith
 
 number-closed-requires : tie.Need-number_closed-next-requires invariant-loop decreases-loop
-number-closed-requires c κs = record { len_bound = omega arith; n_bound = omega arith }
+number-closed-requires c κs = (omega arith, omega arith)
 
 add-n : tie.Need-overflow_add-n invariant-loop decreases-loop
 add-n c = omega arith
@@ -46,8 +46,8 @@ loop-again c =
     let done = c.number_closed-next.ensures in (
       omega arith,
       omega arith,
-      omega (arith, done.len_bound_2, l.invariant.2),
-      done.by_index (lines t l.n) l.invariant.3 ∙ ap closing_text (lines_step (tally t) l.n l.invariant.0),
+      omega (arith, done.1, l.invariant.2),
+      done.0 (lines t l.n) l.invariant.3 ∙ ap closing_text (lines_step (tally t) l.n l.invariant.0),
     )
 
 returns : tie.Need-returns invariant-loop decreases-loop
@@ -58,7 +58,7 @@ returns c =
     let all : l.n ≡ numbers_counted = omega arith in
     let said = l.invariant.3 ∙ ap (λ (n : ℕ). closing_text (lines t n)) all in
     let a = closing-ascends t s.well_formed.0.1.0.1 in
-    record { by_index = (closing (tally t), said, (a.0, a.2, a.3)); value = said }
+    ((closing (tally t), said, (a.0, a.2, a.3)), said)
 
 pub closing_lines_spec : {M : Type 1} → statement M
 closing_lines_spec =

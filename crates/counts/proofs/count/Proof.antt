@@ -23,7 +23,7 @@ array-read-t : tie.Need-bounds-t-k-then-t-k-lt18446744073709551615
 array-read-t c = search rules
 
 below : (c : tie.Then-t-k-lt18446744073709551615) → get_or c.before.before.args.tallies c.before.before.args.n 0 < most
-below c = let a = c.before.before.args in ltb-true (get_or a.tallies a.n 0) most c.if-t-k-lt18446744073709551615.true
+below c = c.if-t-k-lt18446744073709551615.true
 
 add-t : tie.Need-overflow_add-t
 add-t c = record { fits = omega (arith, below c) }
@@ -43,9 +43,9 @@ returns-2 c =
     let t = s.args.tallies in
     let n = s.args.n in
     ⊎_elim {C = t ≡ counted t n}
-    (λ w. counted-most t n (ltb-false (get_or t n 0) most w.1.left) (tally-fits t s.well_formed.0 n))
-    (λ w. counted_out t n (omega (arith, s.well_formed.0.1.0.1, w.left)))
-    c.else-k-lt-NUMBERS.branch
+    (λ w. counted-most t n w.if-t-k-lt18446744073709551615.false (tally-fits t s.well_formed.0 n))
+    (λ w. counted_out t n (omega (arith, s.well_formed.0.1.0.1, w.if-k-lt-NUMBERS.false)))
+    c.else-k-lt-NUMBERS.branch-raw
 
 pub count_spec : {M : Type 1} → statement M
 count_spec =

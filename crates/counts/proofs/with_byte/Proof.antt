@@ -11,7 +11,7 @@ add-t8 : tie.Need-overflow_add-result
 add-t8 c = search rules
 
 returns : tie.Need-returns
-returns c = let s = c.before in record { by_index = text-more s.args.c s.args.b s.requires; len_value = refl }
+returns c = let s = c.before in (text-more s.args.c s.args.b s.requires, refl)
 
 pub with_byte_spec : {M : Type 1} → statement M
 with_byte_spec = tie.close (tie.spec array-write-bytes add-t8 returns)

@@ -41,8 +41,8 @@ loop-again c =
     let part = i.before.before.args.part.now in
     let l = i.loop-i in (
       omega arith,
-      omega (arith, c.with_byte-more.ensures.len_value, l.invariant.1),
-      λ t e. c.with_byte-more.ensures.by_index (t ++ take l.i part) (l.invariant.2 t e) ∙ ap closing_text (step t part l.i (omega arith)),
+      omega (arith, c.with_byte-more.ensures.1, l.invariant.1),
+      λ t e. c.with_byte-more.ensures.0 (t ++ take l.i part) (l.invariant.2 t e) ∙ ap closing_text (step t part l.i (omega arith)),
     )
 
 returns : tie.Need-returns invariant-loop decreases-loop
@@ -50,7 +50,7 @@ returns c =
     let l = c.before.loop-i in
     let part = c.before.before.before.args.part.now in
     let all = take_all l.i part (omega arith) in
-    record { by_index = λ t e. l.invariant.2 t e ∙ ap (λ (p : List ℕ). closing_text (t ++ p)) all; len_value = omega arith }
+    (λ t e. l.invariant.2 t e ∙ ap (λ (p : List ℕ). closing_text (t ++ p)) all, omega arith)
 
 pub with_text_spec : {M : Type 1} → statement M
 with_text_spec =

@@ -19,7 +19,7 @@ use Rattle.state.proofs.Bounds.{signal_narrowed}
 use Rattle.decoder.specs.Frame.{plain_inputs, frame_samples, frame_state}
 use Rattle.decoder.specs.Frame.{erased_checked, erased_signal, erased_samples, erased_state}
 use Rattle.decoder.specs.Decoder.{acceptance}
-use Rattle.decoder.proofs.Fields.{field-length, lag2-fits, taps-fits, gain-fits, lag2-natural}
+use Rattle.decoder.proofs.Fields.{lag2-fits, taps-fits, gain-fits, lag2-natural}
 use Rattle.decoder.proofs.decode_erased.Statement.{statement}
 use Rattle.decoder.proofs.decode_erased.Tie as tie
 
@@ -47,7 +47,7 @@ module _ (s : tie.Start) where
   given = s.args.given
 
   lag2-is : to_z w32 (of_z w32 given.last_lag2) ≡ given.last_lag2
-  lag2-is = to_z-of_z (widen (lag2-fits given s.requires.given_value) tt)
+  lag2-is = to_z-of_z {w = w32} (widen (lag2-fits given s.requires.1) tt)
 
 checked-is : (c : tie.After-lsp_check_or_previous-checked) → c.lsp_check_or_previous-checked.result ≡ erased_checked (given (start_of c))
 checked-is c =
@@ -59,15 +59,15 @@ class-is : (c : tie.After-classify_erasure_voicing-class) → let g = given (sta
     c.classify_erasure_voicing-class.result ≡ voicing_of g.pcm_hist (up g.last_lag2)
 class-is c =
     let s = start_of (checked-of c) in
-    let lag = ap nat_abs (lag2-is s) ∙ (lag2-natural (given s) s.requires.given_value).2 in
+    let lag = ap nat_abs (lag2-is s) ∙ (lag2-natural (given s) s.requires.1).2 in
     c.classify_erasure_voicing-class.ensures ∙ ap (voicing_of (given s).pcm_hist) lag
 
 silent-is : (c : tie.After-frame_signal-silent) → let g = given (start_of (checked-of (class_of c))) in
     c.frame_signal-silent.result ≡ frame_signal g.exc_hist
 silent-is c =
     let s = start_of (checked-of (class_of c)) in
-    let size = field-length (given s).exc_hist s.good.1.0.1.1.1.0.1.0.1 in
-    c.frame_signal-silent.ensures ∙ signal_narrowed (given s) size s.requires.given_value
+    let size = s.well_formed.1.0.1.1.1.0.1.0.1 in
+    c.frame_signal-silent.ensures ∙ signal_narrowed (given s) size s.requires.1
 
 module _ (c : tie.After-plain_inputs-inputs) where
   signal-is : c.before.before.erased_excitation-signal.result ≡ erased_signal (given (begin-of c))
@@ -75,8 +75,8 @@ module _ (c : tie.After-plain_inputs-inputs) where
       let s = begin-of c in
       let f = silent-of c in
       let run = (checked-of (class_of f)).before.before.before.next_run-run.ensures in
-      let t = taps-fits (given s) s.requires.given_value in
-      let g = gain-fits (given s) s.requires.given_value in
+      let t = taps-fits (given s) s.requires.1 in
+      let g = gain-fits (given s) s.requires.1 in
       let taps = (is-cast (is_arg (widen {w' = w32} t tt)) t).is in
       let gain = (is-cast (is_arg (widen {w' = w32} g tt)) g).is in
       c.before.before.erased_excitation-signal.ensures
@@ -97,7 +97,7 @@ lsp-check-or-previous-requires c κs = tt
 cast-classify-erasure-voicing : tie.Need-overflow_cast-given
 cast-classify-erasure-voicing c =
     let s = start_of c.before.before.before.before in
-    let n = lag2-natural (given s) s.requires.given_value in
+    let n = lag2-natural (given s) s.requires.1 in
     let fits : Fits w8 (nat_abs (given s).last_lag2) = record { fits = omega (arith, n.1) } in
     subst (λ (z : ℤ). T (non_neg z) × Fits w8 (nat_abs z)) (sym (lag2-is s)) (n.0, fits)
 
@@ -107,12 +107,12 @@ classify-erasure-voicing-requires c κs = tt
 cast-tap-sum : tie.Need-overflow_cast-tap_sum
 cast-tap-sum c =
     let s = start_of (checked-of c.before.before) in
-    let f = taps-fits (given s) s.requires.given_value in need_cast (is_arg (widen {w' = w32} f tt)) f
+    let f = taps-fits (given s) s.requires.1 in need_cast (is_arg (widen {w' = w32} f tt)) f
 
 cast-gain : tie.Need-overflow_cast-gain
 cast-gain c =
     let s = start_of (checked-of c.before.before.before.before) in
-    let f = gain-fits (given s) s.requires.given_value in need_cast (is_arg (widen {w' = w32} f tt)) f
+    let f = gain-fits (given s) s.requires.1 in need_cast (is_arg (widen {w' = w32} f tt)) f
 
 frame-signal-requires : tie.Need-frame_signal-silent-requires
 frame-signal-requires c κs = tt
@@ -124,10 +124,10 @@ plain-inputs-requires : tie.Need-plain_inputs-inputs-requires
 plain-inputs-requires c κs = tt
 
 finish-frame-requires : tie.Need-finish_frame-requires
-finish-frame-requires c κs = let s = begin-of c.before.before in record { samples_len = s.requires.samples_len; given_value = s.requires.given_value }
+finish-frame-requires c κs = let s = begin-of c.before.before in (s.requires.0, s.requires.1)
 
 same_length : tie.Need-shape_of-samples
-same_length c = c.before.finish_frame.auto.0
+same_length c = c.before.finish_frame.auto.samples
 
 returns : tie.Need-returns
 unfolding erased_state erased_samples
@@ -137,13 +137,16 @@ returns c =
     let p = t.before in
     let g = given (begin-of p) in
     let l = checked-of (class_of (silent-of p)) in
-    let told = t.struct_told-4-1.given.1.1.1.1 in record { answer = r.ensures.0 ∙ (λ i. acceptance (checked-is l i).outcome (frame_state g (checked-is l i).lsps (inputs-is p i) (signal-is p i) record {
+    let told = t.struct_told-4-1.given.1.1.1.1 in (
+      r.ensures.0 ∙ (λ i. acceptance (checked-is l i).outcome (frame_state g (checked-is l i).lsps (inputs-is p i) (signal-is p i) record {
         last_lag = read_back w32 g.last_lag told.0.1 i;
         last_lag2 = read_back w32 g.last_lag2 told.1.0.1 i;
         last_taps_sum_q15 = read_back w32 g.last_taps_sum_q15 told.1.1.0.1 i;
         last_gain_unvoiced = read_back w32 g.last_gain_unvoiced told.1.1.1.0.1 i;
         erased_run = l.before.before.before.next_run-run.ensures i;
-      })); samples = r.ensures.1 ∙ (λ i. frame_samples g (checked-is l i).lsps (inputs-is p i)) }
+      })),
+      r.ensures.1 ∙ (λ i. frame_samples g (checked-is l i).lsps (inputs-is p i)),
+    )
 
 pub decode_erased_spec : {M : Type 1} → statement M
 decode_erased_spec =

@@ -19,7 +19,6 @@ use Rattle.decoder.specs.Frame.{frame_samples, frame_state, received_to}
 use Rattle.decoder.specs.Frame.{received_checked, received_signal, received_inputs}
 use Rattle.decoder.specs.Frame.{received_samples, received_state}
 use Rattle.decoder.specs.Decoder.{acceptance}
-use Rattle.decoder.proofs.Fields.{field-length}
 use Rattle.decoder.proofs.Frames.{in_turn_lem, inputs-same}
 use Rattle.decoder.proofs.decode_received.Statement.{statement}
 use Rattle.decoder.proofs.decode_received.Tie as tie
@@ -76,8 +75,8 @@ module _ (c : tie.After-read_block-b3) where
 silent-is : (c : tie.After-frame_signal-x0) → c.frame_signal-x0.result ≡ frame_signal (given (begin-of (blocks-of c))).exc_hist
 silent-is c =
     let s = begin-of (blocks-of c) in
-    let size = field-length (given s).exc_hist s.good.1.0.1.1.1.0.1.0.1 in
-    c.frame_signal-x0.ensures ∙ signal_narrowed (given s) size s.requires.given_value
+    let size = s.well_formed.1.0.1.1.1.0.1.0.1 in
+    c.frame_signal-x0.ensures ∙ signal_narrowed (given s) size s.requires.1
 
 signal-is : (c : tie.After-received_subframe-signal) → let s = begin-of (blocks-of (silent-of c)) in
     c.received_subframe-signal.result ≡ received_signal (given s) s.args.rate (fields s)
@@ -170,10 +169,10 @@ unvoiced-gain-requires c κs = tt
 
 finish-frame-requires : tie.Need-finish_frame-requires
 finish-frame-requires c κs =
-    let s = begin-of (blocks c.before.before.before.before.before.before) in record { samples_len = s.requires.samples_len; given_value = s.requires.given_value }
+    let s = begin-of (blocks c.before.before.before.before.before.before) in (s.requires.0, s.requires.1)
 
 same_length : tie.Need-shape_of-samples
-same_length c = c.before.finish_frame.auto.0
+same_length c = c.before.finish_frame.auto.samples
 
 returns : tie.Need-returns
 unfolding received_state received_samples
@@ -189,13 +188,16 @@ returns c =
     let b = block-is (blocks n) in
     let sum = u.before.tap_sum in
     let gain = u.unvoiced_gain in
-    let unvoiced : Block → Block → ℤ = λ p q. pos (unvoiced_gain p.gain_index q.gain_index) in record { answer = r.ensures.0 ∙ (λ i. acceptance (checked-is l i).outcome (frame_state g (checked-is l i).lsps (inputs-is n i) (x i) record {
+    let unvoiced : Block → Block → ℤ = λ p q. pos (unvoiced_gain p.gain_index q.gain_index) in (
+      r.ensures.0 ∙ (λ i. acceptance (checked-is l i).outcome (frame_state g (checked-is l i).lsps (inputs-is n i) (x i) record {
         last_lag = back w32 t.before.struct_told-5-1.given.1.0.1 (λ j. (b Three j).lag) i;
         last_lag2 = back w32 t.struct_told-6-1.given.1.0.1 (λ j. (b Two j).lag) i;
-        last_taps_sum_q15 = back w32 sum.type_inv (sum.ensures ∙ (λ j. tap_sum_of (b Three j).taps-1)) i;
+        last_taps_sum_q15 = back w32 sum.type_inv (sum.ensures ∙ (λ j. tap_sum_of (b Three j).taps)) i;
         last_gain_unvoiced = back w32 gain.type_inv (gain.ensures ∙ (λ j. unvoiced (b Two j) (b Three j))) i;
         erased_run = 0;
-      })); samples = r.ensures.1 ∙ (λ i. frame_samples g (checked-is l i).lsps (inputs-is n i)) }
+      })),
+      r.ensures.1 ∙ (λ i. frame_samples g (checked-is l i).lsps (inputs-is n i)),
+    )
 
 pub decode_received_spec : {M : Type 1} → statement M
 decode_received_spec =

@@ -22,9 +22,9 @@ returns c =
     let a = u.before.before.before.before.before.args in
     let lag = read_back w32 a.b.lag u.before.struct_told-1.given.1.0.1 in
     let p = subframe_place a.s in
-    let adapted = u.acb_contribution-u.ensures ∙ (λ i. adaptive a.t1 p (limited_lag (lag i)) a.b.taps-1) in
-    let summed = e.excitation_sum-e.ensures ∙ (λ i. limited_sum (adapted i) a.b.fixed-1) in
-    c.push_excitation.ensures ∙ (λ i. with_subframe a.t1 p (summed i))
+    let adapted = u.acb_contribution-u.ensures ∙ (λ i. adaptive a.signal p (limited_lag (lag i)) a.b.taps) in
+    let summed = e.excitation_sum-e.ensures ∙ (λ i. limited_sum (adapted i) a.b.fixed) in
+    c.push_excitation.ensures ∙ (λ i. with_subframe a.signal p (summed i))
 
 pub received_subframe_spec : {M : Type 1} → statement M
 received_subframe_spec =

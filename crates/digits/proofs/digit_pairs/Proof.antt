@@ -72,13 +72,13 @@ loop-again c =
     let a = x.digit_code-a.ensures in
     let b = y.digit_code-b.ensures in
     let v = p.pair_value.ensures ∙ (λ k. 16 * ((ap (λ (n : ℕ). n % 16) a ∙ code-value (get_or xs (2 * i) 0)) k) + (ap (λ (n : ℕ). n % 16) b ∙ code-value (get_or xs (2 * i + 1) 0)) k) in
-    let d = c.still_digits-are_pairs.ensures ∙ (λ k. (l.loop-i.are-pairs && (ap (λ (n : ℕ). ltb n 16) a ∙ code_digit (get_or xs (2 * i) 0)) k) && (ap (λ (n : ℕ). ltb n 16) b ∙ code_digit (get_or xs (2 * i + 1) 0)) k) in
-    reading_next xs l.loop-i.bytes l.loop-i.are-pairs c.still_digits-are_pairs.result p.pair_value.result i l.loop-i.invariant (omega arith) v d
+    let d = c.still_digits-are_pairs.ensures ∙ (λ k. (l.loop-i.are_pairs && (ap (λ (n : ℕ). ltb n 16) a ∙ code_digit (get_or xs (2 * i) 0)) k) && (ap (λ (n : ℕ). ltb n 16) b ∙ code_digit (get_or xs (2 * i + 1) 0)) k) in
+    reading_next xs l.loop-i.bytes l.loop-i.are_pairs c.still_digits-are_pairs.result p.pair_value.result i l.loop-i.invariant (omega arith) v d
 
 returns-2 : tie.Need-returns invariant-loop decreases-loop
 returns-2 c =
     let l = c.before in
-    reading_end l.before.before.before.before.args.text.now l.loop-i.bytes l.loop-i.are-pairs l.loop-i.i l.loop-i.invariant (omega arith)
+    reading_end l.before.before.before.before.args.text.now l.loop-i.bytes l.loop-i.are_pairs l.loop-i.i l.loop-i.invariant (omega arith)
 
 pub digit_pairs_spec : {M : Type 1} → statement M
 digit_pairs_spec =

@@ -49,25 +49,25 @@ module _ (c : tie.After-noise_subframe-n3) where
   read = to_z-of_z {w = w16} s.ranges.gain
 
   word1 : c.before.before.before.noise_subframe-n0.result.word ≡ word_after w 60
-  word1 = c.before.before.before.noise_subframe-n0.ensures.word_value
+  word1 = c.before.before.before.noise_subframe-n0.ensures.1
 
   word2 : c.before.before.noise_subframe-n1.result.word ≡ word_after w 120
-  word2 = c.before.before.noise_subframe-n1.ensures.word_value ∙ ap (λ (v : ℕ). word_after v 60) word1 ∙ word-after-add w 60 60
+  word2 = c.before.before.noise_subframe-n1.ensures.1 ∙ ap (λ (v : ℕ). word_after v 60) word1 ∙ word-after-add w 60 60
 
   word3 : c.before.noise_subframe-n2.result.word ≡ word_after w 180
-  word3 = c.before.noise_subframe-n2.ensures.word_value ∙ ap (λ (v : ℕ). word_after v 60) word2 ∙ word-after-add w 120 60
+  word3 = c.before.noise_subframe-n2.ensures.1 ∙ ap (λ (v : ℕ). word_after v 60) word2 ∙ word-after-add w 120 60
 
   out0 : c.before.before.before.noise_subframe-n0.result.out ≡ noise_subframe g (word_after w 0)
-  out0 = c.before.before.before.noise_subframe-n0.ensures.out_value ∙ (λ i. noise_subframe (read i) (sym (word-after-zero w) i))
+  out0 = c.before.before.before.noise_subframe-n0.ensures.0 ∙ (λ i. noise_subframe (read i) (sym (word-after-zero w) i))
 
   out1 : c.before.before.noise_subframe-n1.result.out ≡ noise_subframe g (word_after w 60)
-  out1 = c.before.before.noise_subframe-n1.ensures.out_value ∙ (λ i. noise_subframe (read i) (word1 i))
+  out1 = c.before.before.noise_subframe-n1.ensures.0 ∙ (λ i. noise_subframe (read i) (word1 i))
 
   out2 : c.before.noise_subframe-n2.result.out ≡ noise_subframe g (word_after w 120)
-  out2 = c.before.noise_subframe-n2.ensures.out_value ∙ (λ i. noise_subframe (read i) (word2 i))
+  out2 = c.before.noise_subframe-n2.ensures.0 ∙ (λ i. noise_subframe (read i) (word2 i))
 
   out3 : c.noise_subframe-n3.result.out ≡ noise_subframe g (word_after w 180)
-  out3 = c.noise_subframe-n3.ensures.out_value ∙ (λ i. noise_subframe (read i) (word3 i))
+  out3 = c.noise_subframe-n3.ensures.0 ∙ (λ i. noise_subframe (read i) (word3 i))
 
 returns : tie.Need-returns
 returns c =

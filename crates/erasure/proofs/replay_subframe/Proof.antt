@@ -20,8 +20,8 @@ returns c =
     let b = r.before.before in
     let a = b.args in
     let gain = to_z-of_z {w = w16} b.ranges.gain in
-    let e = r.replayed_subframe-e.ensures ∙ ap (replayed a.t1 (subframe_place a.s) (limited_lag (pos a.lag))) gain in
-    c.push_excitation.ensures ∙ ap (with_subframe a.t1 (subframe_place a.s)) e
+    let e = r.replayed_subframe-e.ensures ∙ ap (replayed a.signal (subframe_place a.s) (limited_lag (pos a.lag))) gain in
+    c.push_excitation.ensures ∙ ap (with_subframe a.signal (subframe_place a.s)) e
 
 pub replay_subframe_spec : {M : Type 1} → statement M
 replay_subframe_spec =

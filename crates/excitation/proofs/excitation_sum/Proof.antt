@@ -52,8 +52,8 @@ loop-again c =
     let l = c.before.before.before.before in
     let a = l.before.args in
     let k = l.loop-n.n in
-    let p = read_back w32 (entry a.t1 k) c.before.before.sum_sample-arg-1.given in
-    let q = read_back w32 (entry a.t2 k) c.before.sum_sample-arg-in-loop-n-1.given in
+    let p = read_back w32 (entry a.u k) c.before.before.sum_sample-arg-1.given in
+    let q = read_back w32 (entry a.v k) c.before.sum_sample-arg-in-loop-n-1.given in
     fills_next l.loop-n.invariant (omega arith) (back w16 c.sum_sample.type_inv (c.sum_sample.ensures ∙ (λ j. word16 (p j +ℤ q j))))
 
 returns : tie.Need-returns invariant-loop decreases-loop

@@ -46,16 +46,16 @@ module _ (c : tie.After-sum-1 invariant-loop decreases-loop) where
   tap-fits = widen {w = w16} (record { sfits = c.sum-1.given }) tt
 
   term_is : Is w32 (of_z w32 (to_z w16 (of_z w16 tap))) tap
-  term_is = is-cast (is-mag tap c.sum-1.given) tap-fits
+  term_is = is-cast {w = w16} (is-mag tap c.sum-1.given) tap-fits
 
   term-within : Within (2 ^ 15) term
   term-within = within-is term_is (within-mag w16 tap c.sum-1.given)
 
-  sum_fits : SFits w32 (to_z w32 l.loop-j.sum-1 +ℤ term)
-  sum_fits = sums-fits 5 l.loop-j.inv.1 c.before.loop-j-test.true term term-within (lit≤ tt)
+  sum_fits : SFits w32 (to_z w32 l.loop-j.sum-bits +ℤ term)
+  sum_fits = sums-fits 5 l.loop-j.invariant.1 c.before.loop-j-test.true term term-within (lit≤ tt)
 
 cast-sum : tie.Need-overflow_cast-sum invariant-loop decreases-loop
-cast-sum c = need_cast (is-mag (tap c) c.sum-1.given) (tap-fits c)
+cast-sum c = need_cast {w = w16} (is-mag (tap c) c.sum-1.given) (tap-fits c)
 
 add-sum : tie.Need-overflow_add-sum invariant-loop decreases-loop
 add-sum c = sum_fits c
@@ -68,7 +68,7 @@ loop-less c = omega arith
 
 loop-again : tie.Need-loop-j-preserved invariant-loop decreases-loop
 loop-again c =
-    let s = to_z w32 (l c).loop-j.sum-1 +ℤ term c in
+    let s = to_z w32 (l c).loop-j.sum-bits +ℤ term c in
     (omega arith, sums_next (l c).loop-j.invariant.1 (term c) s (term-within c) (term_is c).is refl (sum_fits c).sfits)
 
 -- twice the sum of all five
@@ -76,16 +76,16 @@ module _ (c : tie.After-loop-j invariant-loop decreases-loop) where
   abbrev twice : ℤ
   twice = sum_to (entry c.before.before.args.taps) 5 *ℤ pos 2
 
-  summed : (to_z w32 c.before.loop-j.sum-1 ≡ sum_to (entry c.before.before.args.taps) 5) × Within (5 * 2 ^ 15) (to_z w32 c.before.loop-j.sum-1)
+  summed : (to_z w32 c.before.loop-j.sum-bits ≡ sum_to (entry c.before.before.args.taps) 5) × Within (5 * 2 ^ 15) (to_z w32 c.before.loop-j.sum-bits)
   summed = sums_end 5 c.before.loop-j.invariant.1 (omega arith)
 
-  sum_is : Is w32 c.before.loop-j.sum-1 (sum_to (entry c.before.before.args.taps) 5)
+  sum_is : Is w32 c.before.loop-j.sum-bits (sum_to (entry c.before.before.args.taps) 5)
   sum_is = record { is = summed.0 }
 
   twice-fits : SFits w32 twice
   twice-fits = fits-within (within-mul (subst (Within (5 * 2 ^ 15)) summed.0 summed.1) (within_num (pos 2))) tt
 
-  twice-is : Is w32 (of_z w32 (to_z w32 c.before.loop-j.sum-1 *ℤ pos 2)) twice
+  twice-is : Is w32 (of_z w32 (to_z w32 c.before.loop-j.sum-bits *ℤ pos 2)) twice
   twice-is = is_mul sum_is (is-lit w32 2) twice-fits
 
 mul-twice : tie.Need-overflow_mul-twice invariant-loop decreases-loop
@@ -99,7 +99,7 @@ module _ (c : tie.Else-twice-lt0 invariant-loop decreases-loop) where
   low : lt_z (twice c.before) (pos 0) ≡ false
   low = sym (is_lt (twice-is c.before) (is-lit w32 0)) ∙ c.if-twice-lt0.false
 
-  high : lt_z (to_z w32 32767) (to_z w32 (of_z w32 (to_z w32 c.before.before.loop-j.sum-1 *ℤ pos 2))) ≡ lt_z (pos 32767) (twice c.before)
+  high : lt_z (to_z w32 32767) (to_z w32 (of_z w32 (to_z w32 c.before.before.loop-j.sum-bits *ℤ pos 2))) ≡ lt_z (pos 32767) (twice c.before)
   high = is_lt (is-lit w32 32767) (twice-is c.before)
 
 returns-2 : tie.Need-returns-then-twice-gt-TAPS_SUM_MAX_Q15 invariant-loop decreases-loop

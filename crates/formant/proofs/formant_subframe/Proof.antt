@@ -57,7 +57,10 @@ returns c =
     let less = t.zero_sums-less.ensures ∙ (λ i. sums (zeros-is w i) (line i) 10) ∙ sums-prediction y a.num (zeros a.a) in
     let v = predictions_read a.a y a.num less in
     let passed = difference y t.zero_sums-less.result in
-    let r = c.pole_subframe.ensures in record { out_value = r.out_value ∙ ap (λ (q : List ℤ). driven_subframe q passed a.den) (poles-is p) ∙ same_subframe (poles a.a) a.den v; mem_value = r.mem_value ∙ ap (λ (q : List ℤ). driven_memory q passed a.den) (poles-is p) ∙ same_memory (poles a.a) a.den v }
+    let r = c.pole_subframe.ensures in (
+      r.0 ∙ ap (λ (q : List ℤ). driven_subframe q passed a.den) (poles-is p) ∙ same_subframe (poles a.a) a.den v,
+      r.1 ∙ ap (λ (q : List ℤ). driven_memory q passed a.den) (poles-is p) ∙ same_memory (poles a.a) a.den v,
+    )
 
 pub formant_subframe_spec : {M : Type 1} → statement M
 formant_subframe_spec =

@@ -49,7 +49,7 @@ returns : tie.Need-returns invariant-loop decreases-loop
 returns c =
     let l = c.before in
     let last : l.loop-m.m ≡ 10 = omega arith in
-    subst (Fills (λ i. entry l.before.args.mem (9 - i)) 70 l.loop-m.line-1) last l.loop-m.invariant.1
+    subst (Fills (λ i. entry l.before.args.mem (9 - i)) 70 l.loop-m.line) last l.loop-m.invariant.1
 
 pub oldest_first_spec : {M : Type 1} → statement M
 oldest_first_spec =

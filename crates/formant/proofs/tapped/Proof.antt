@@ -44,18 +44,18 @@ module _ (c : tie.After-tap-arg-in-loop-n-1 invariant-loop decreases-loop) where
   n = at-loop.loop-n.n
 
   abbrev term : ℕ → ℤ
-  term m = let a = at-loop.before.args in entry a.t1 m +ℤ a.w *ℤ entry a.line.now (m + a.k)
+  term m = let a = at-loop.before.args in entry a.sums m +ℤ a.w *ℤ entry a.line.now (m + a.k)
 
   term_is : let a = at-loop.before.args in
-      to_z w32 (of_z w32 (entry a.t1 n)) +ℤ to_z w16 (of_z w16 a.w) *ℤ to_z w16 (of_z w16 (entry a.line.now (n + a.k))) ≡ term n
+      to_z w32 (of_z w32 (entry a.sums n)) +ℤ to_z w16 (of_z w16 a.w) *ℤ to_z w16 (of_z w16 (entry a.line.now (n + a.k))) ≡ term n
   term_is =
       let a = at-loop.before.args in
-      let sum = read_back w32 (entry a.t1 n) c.before.tap-arg-1.given in
+      let sum = read_back w32 (entry a.sums n) c.before.tap-arg-1.given in
       let x = read_back w16 (entry a.line.now (n + a.k)) c.tap-arg-in-loop-n-1.given in
       λ i. sum i +ℤ to_z-of_z {w = w16} at-loop.before.ranges.w i *ℤ x i
 
   term_fits : SFits w32 (term n)
-  term_fits = subst (SFits w32) (tabulate-at term 60 n (pos 0) c.before.before.loop-n-test.true) (at-loop.before.requires.all_fit.at n)
+  term_fits = subst (SFits w32) (tabulate-at term 60 n (pos 0) c.before.before.loop-n-test.true) (at-loop.before.requires.1.at n)
 
 tap-requires : tie.Need-tap-requires invariant-loop decreases-loop
 tap-requires c κs = subst (SFits w32) (sym (term_is c)) (term_fits c)
@@ -77,17 +77,17 @@ loop-again c =
     let t = c.before in
     let l = at-loop t in
     let a = l.before.args in
-    let sum = read_back w32 (entry a.t1 (n t)) t.before.tap-arg-1.given in
+    let sum = read_back w32 (entry a.sums (n t)) t.before.tap-arg-1.given in
     let x = read_back w16 (entry a.line.now (n t + a.k)) t.tap-arg-in-loop-n-1.given in
     let r = c.tap in
-    fills_next l.loop-n.inv (omega arith) (back w32 r.type_inv (r.ensures ∙ (λ i. sum i +ℤ to_z w16 (of_z w16 a.w) *ℤ x i)))
+    fills_next l.loop-n.invariant (omega arith) (back w32 r.type_inv (r.ensures ∙ (λ i. sum i +ℤ to_z w16 (of_z w16 a.w) *ℤ x i)))
 
 returns : tie.Need-returns invariant-loop decreases-loop
 returns c =
     let s = c.before.before in
     let a = s.args in
     let w = to_z-of_z {w = w16} s.ranges.w in
-    fills_end c.before.loop-n.invariant (omega arith) ∙ (λ i. tabulate (λ n. entry a.t1 n +ℤ w i *ℤ entry a.line.now (n + a.k)) 60)
+    fills_end c.before.loop-n.invariant (omega arith) ∙ (λ i. tabulate (λ n. entry a.sums n +ℤ w i *ℤ entry a.line.now (n + a.k)) 60)
 
 pub tapped_spec : {M : Type 1} → statement M
 tapped_spec =

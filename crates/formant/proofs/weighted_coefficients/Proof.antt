@@ -50,8 +50,8 @@ loop-again c =
     let l = c.before.before.before.before in
     let a = l.before.args in
     let k = l.loop-i.i in
-    let x = read_back w16 (entry a.t1 k) c.before.before.mult-arg-1.given in
-    let y = read_back w16 (entry a.t2 k) c.before.mult-arg-in-loop-i-1.given in
+    let x = read_back w16 (entry a.a k) c.before.before.mult-arg-1.given in
+    let y = read_back w16 (entry a.table k) c.before.mult-arg-in-loop-i-1.given in
     fills_next l.loop-i.invariant (omega arith) (back w16 c.mult.type_inv (c.mult.ensures ∙ (λ i. mult16 (x i) (y i))))
 
 returns : tie.Need-returns invariant-loop decreases-loop

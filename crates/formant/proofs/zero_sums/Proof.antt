@@ -42,15 +42,15 @@ module _ (c : tie.After-line-1 invariant-loop decreases-loop) where
   next-is =
       let a = at-loop.before.args in
       let j = at-loop.loop-j.j in
-      ap with (read_back w16 (entry a.t1 j) c.before.tapped-arg-1.given) ∙ sums_next a.t1 a.t2 j at-loop.loop-j.inv.1
+      ap with (read_back w16 (entry a.w j) c.before.tapped-arg-1.given) ∙ sums_next a.w a.line j at-loop.loop-j.invariant.1
 
 tapped-requires : tie.Need-tapped-next-requires invariant-loop decreases-loop
 tapped-requires c κs =
     let l = at-loop c in
     let s = l.before in
     let h = c.before.before.loop-j-test.true in
-    let fit : AllFit w16 s.args.line = all_fit 70 s.good.1.0 in
-    record { k_bound = omega arith; all_fit = subst (AllFit w32) (sym (next-is c)) (sums-fit s.args.w s.args.line s.requires fit (l.loop-j.j + 1) (omega arith)) }
+    let fit : AllFit w16 s.args.line = all_fit 70 s.well_formed.1.0 in
+    (omega arith, subst (AllFit w32) (sym (next-is c)) (sums-fit s.args.w s.args.line s.requires fit (l.loop-j.j + 1) (omega arith)))
 
 add-j : tie.Need-overflow_add-j invariant-loop decreases-loop
 add-j c = omega arith

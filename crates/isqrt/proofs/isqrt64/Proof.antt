@@ -59,8 +59,8 @@ loop-again c =
     let l = c.before.before in
     let v = l.before.before.args.v in
     let i = l.loop-bit in
-    ⊎_elim (λ w. partial_same (turn-next v i.x i.r i.bit i.invariant (omega arith) (omega arith)) w.1 w.2)
-    (λ w. partial_same (turn-kept v i.x i.r i.bit i.invariant (omega arith) (omega arith)) w.1 w.2) c.if-t-x.branch
+    ⊎_elim (λ w. partial_same (turn-next v i.x i.r i.bit i.invariant (omega arith) (omega arith)) w.x-is w.r-is)
+    (λ w. partial_same (turn-kept v i.x i.r i.bit i.invariant (omega arith) (omega arith)) w.x-is w.r-is) c.if-t-x.branch-raw
 
 cast-result : tie.Need-overflow_cast-result invariant-loop decreases-loop
 cast-result c =

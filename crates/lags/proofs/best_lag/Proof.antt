@@ -37,7 +37,7 @@ loop-holds c =
     let x = a.x.now in
     let e = c.energy_from-d.ensures in
     let place = c.before.window_place.ensures ∙ ap (window a.to a.p) (sym (add-zero a.lo)) in
-    (omega arith, omega (arith, e.upper_bound), e.result_value ∙ ap (λ (q : ℕ). energy x q 60) place, leads-start x a.to a.p a.lo, tt)
+    (omega arith, omega (arith, e.1), e.0 ∙ ap (λ (q : ℕ). energy x q 60) place, leads-start x a.to a.p a.lo, tt)
 
 cast-window-place-3 : tie.Need-overflow_cast-p-in-loop-k invariant-loop decreases-loop
 cast-window-place-3 c = omega arith
@@ -54,7 +54,7 @@ window-place-requires-2 c κs = tt
 offered-requires : tie.Need-offered-b-requires invariant-loop decreases-loop
 offered-requires c κs =
     let i = c.before.before.loop-k.invariant in
-    record { k_bound = omega arith; q_value = c.window_place-q.ensures; d_value = i.2; d_bound = omega (arith, i.1); leads = i.3; small = i.4 }
+    (omega arith, (c.window_place-q.ensures, (i.2, (omega (arith, i.1), (i.3, i.4)))))
 
 moved-energy-requires : tie.Need-moved_energy-d-requires invariant-loop decreases-loop
 moved-energy-requires c κs =
@@ -62,10 +62,16 @@ moved-energy-requires c κs =
     let l = w.before.before in
     let a = l.before.before.before.args in
     let i = l.loop-k.invariant in
-    let m = a.lo + l.loop-k.k in record { e_value = i.2 ∙ sym (ap (λ (q : ℕ). energy a.x.now q 60) w.window_place-q.ensures); e_bound = omega (arith, i.1); q_nonzero = (
+    let m = a.lo + l.loop-k.k in (
+      i.2 ∙ sym (ap (λ (q : ℕ). energy a.x.now q 60) w.window_place-q.ensures),
+      (
+        omega (arith, i.1),
+        (
           omega (arith, w.window_place-q.ensures, window-above a.to a.p m (omega arith)),
           omega (arith, w.window_place-q.ensures, window-most a.to a.p m),
-        ) }
+        ),
+      ),
+    )
 
 add-k : tie.Need-overflow_add-k invariant-loop decreases-loop
 add-k c = omega arith
@@ -84,10 +90,10 @@ loop-again c =
     let place : next a.to w.window_place-q.result ≡ window a.to a.p (a.lo + (k + 1)) =
     ap (next a.to) w.window_place-q.ensures ∙ window-next a.to a.p (a.lo + k) ∙ ap (window a.to a.p) (omega arith) in (
       omega arith,
-      omega (arith, i.1, c.moved_energy-d.ensures.upper_bound),
-      c.moved_energy-d.ensures.result_value ∙ ap (λ (q : ℕ). energy a.x.now q 60) place,
-      o.offered-b.ensures.leads_2,
-      o.offered-b.ensures.small_2,
+      omega (arith, i.1, c.moved_energy-d.ensures.1),
+      c.moved_energy-d.ensures.0 ∙ ap (λ (q : ℕ). energy a.x.now q 60) place,
+      o.offered-b.ensures.0,
+      o.offered-b.ensures.1,
     )
 
 returns : tie.Need-returns invariant-loop decreases-loop
@@ -95,8 +101,11 @@ returns c =
     let l = c.before in
     let s = l.before.before.before in
     let a = s.args in
-    let i = l.loop-k.invariant in record { value = leads_best a.x.now a.to a.p a.lo l.loop-k.k l.loop-k.best i.3
-          ∙ ap (best_of a.x.now a.to a.p a.lo) (omega arith); small = i.4; inside = leads-inside a.x.now a.to a.p a.lo l.loop-k.k (omega arith) l.loop-k.best i.3 }
+    let i = l.loop-k.invariant in (
+      leads_best a.x.now a.to a.p a.lo l.loop-k.k l.loop-k.best i.3
+          ∙ ap (best_of a.x.now a.to a.p a.lo) (omega arith),
+      (i.4, leads-inside a.x.now a.to a.p a.lo l.loop-k.k (omega arith) l.loop-k.best i.3),
+    )
 
 pub best_lag_spec : {M : Type 1} → statement M
 best_lag_spec =

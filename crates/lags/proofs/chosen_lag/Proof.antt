@@ -67,8 +67,14 @@ returns c =
     let t = at l in
     let a = t.before.args in
     let k = c.chosen_direction.ensures in
-    let place = t.subframe_place-p.ensures in record { value = k ∙ (λ i. chosen (f.ensures.0 i) (b.ensures.0 i)) ∙ (λ i. chosen_lag a.signal.now (place i) (lag-is l i)); small = chosen-holds (λ z. Small z.best) k f.ensures.1.0 b.ensures.1.0; inside = subst (λ (n : ℕ). Inside c.chosen_direction.result.to n c.chosen_direction.result.best) place
-            (chosen-holds (λ z. Inside z.to (p t) z.best) k f.ensures.1.1 b.ensures.1.1) }
+    let place = t.subframe_place-p.ensures in (
+      k ∙ (λ i. chosen (f.ensures.0 i) (b.ensures.0 i)) ∙ (λ i. chosen_lag a.signal.now (place i) (lag-is l i)),
+      (
+        chosen-holds (λ z. Small z.best) k f.ensures.1.0 b.ensures.1.0,
+        subst (λ (n : ℕ). Inside c.chosen_direction.result.to n c.chosen_direction.result.best) place
+            (chosen-holds (λ z. Inside z.to (p t) z.best) k f.ensures.1.1 b.ensures.1.1),
+      ),
+    )
 
 pub chosen_lag_spec : {M : Type 1} → statement M
 chosen_lag_spec =

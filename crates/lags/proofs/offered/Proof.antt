@@ -24,7 +24,7 @@ use Rattle.lags.proofs.offered.Statement.{statement}
 use Rattle.lags.proofs.offered.Tie as tie
 
 add-if1 : tie.Need-overflow_add-q
-add-if1 s = let a = s.args in omega (arith, s.requires.q_value, window-most a.to a.p (a.lo + a.k))
+add-if1 s = let a = s.args in omega (arith, s.requires.1.0, window-most a.to a.p (a.lo + a.k))
 
 -- the lag that is offered, and what led before it
 module _ (s : tie.Start) where
@@ -47,22 +47,22 @@ module _ (s : tie.Start) where
   best = s.args.best
 
   leads : Leads x to p lo k best
-  leads = s.requires.leads
+  leads = s.requires.1.1.1.1.0
 
   bounded : Small best
-  bounded = s.requires.small
+  bounded = s.requires.1.1.1.1.1
 
   -- it still leads where the lag does not count
   still : counts x to p (lo + k) ≡ false → Leads x to p lo (k + 1) best × Small best
   still h = (leads_uncounted x to p lo k best leads h, bounded)
 
   loud : (t : Bool) → lt_z (pos 0) (pos s.args.d) ≡ t → lt_z (pos 0) (lag_energy x to p (lo + k)) ≡ t
-  loud t e = sym (ap (lt_z (pos 0)) s.requires.d_value) ∙ e
+  loud t e = sym (ap (lt_z (pos 0)) s.requires.1.1.0) ∙ e
 
 returns : tie.Need-returns-then-q-gt-SIGNAL_SIZE
 returns c =
     let s = c.before in
-    let past = subst (λ (q : ℕ). 386 < q + 60) s.requires.q_value c.if-q-gt-SIGNAL_SIZE.true in
+    let past = subst (λ (q : ℕ). 386 < q + 60) s.requires.1.0 c.if-q-gt-SIGNAL_SIZE.true in
     still s (counts-not-inside (x s) (to s) (p s) (lo s + k s) past)
 
 returns-2 : tie.Need-returns-then-d-eq0
@@ -87,11 +87,11 @@ module _ (r : tie.After-correlate-s) where
 
   read_is : read ≡ meant
   read_is =
-      back w64 r.correlate-s.ok r.correlate-s.ensures.value
-      ∙ ap (λ (q : ℕ). correlation (x start) (p start) (x start) q 60) start.requires.q_value
+      back w64 r.correlate-s.type_inv r.correlate-s.ensures.0
+      ∙ ap (λ (q : ℕ). correlation (x start) (p start) (x start) q 60) start.requires.1.0
 
   small : Within (60 * 2 ^ 30) read
-  small = within-is (is-mag r.correlate-s.result r.correlate-s.ok) r.correlate-s.ensures.within
+  small = within-is {w = w64} (is-mag r.correlate-s.result r.correlate-s.type_inv) r.correlate-s.ensures.1
 
   alike : (t : Bool) → le_z read (pos 0) ≡ t → lt_z (pos 0) meant ≡ not t
   alike t e = sym (ap (lt_z (pos 0)) read_is) ∙ lt_z_not_le_z read (pos 0) ∙ ap not e
@@ -110,7 +110,7 @@ cast-c c =
 is-better-requires : tie.Need-is_better-requires
 is-better-requires c κs =
     let s = start c.before in
-    record { small = bounded s; c_bound = (omega (arith, (small c.before).within), s.requires.d_bound) }
+    (bounded s, (omega (arith, (small c.before).within), s.requires.1.1.1.0))
 
 add-t15 : tie.Need-overflow_add-result
 add-t15 c = omega arith
@@ -122,28 +122,31 @@ module _ (e : tie.Else-s-le0) where
 
   counted : counts (x s) (to s) (p s) (lo s + k s) ≡ true
   counted =
-      let inside = subst (λ (q : ℕ). q + 60 ≤ 386) s.requires.q_value e.before.before.before.if-q-gt-SIGNAL_SIZE.left in
-      let above : 0 < s.args.d = omega (arith, e.before.before.if-d-eq0.left) in
-      counts_all (x s) (to s) (p s) (lo s + k s) inside (alike e.before false e.if-s-le0.left) (loud s true (lt-ltb 0 s.args.d above))
+      let inside = subst (λ (q : ℕ). q + 60 ≤ 386) s.requires.1.0 e.before.before.before.if-q-gt-SIGNAL_SIZE.false in
+      let above : 0 < s.args.d = omega (arith, e.before.before.if-d-eq0.false) in
+      counts_all (x s) (to s) (p s) (lo s + k s) inside (alike e.before false e.if-s-le0.false) (loud s true (lt-ltb 0 s.args.d above))
 
   is_c : nat_abs (read e.before) ≡ c (x s) (to s) (p s) (lo s + k s)
   is_c = ap nat_abs (read_is e.before)
 
   is-d : s.args.d ≡ d (x s) (to s) (p s) (lo s + k s)
-  is-d = ap nat_abs s.requires.d_value
+  is-d = ap nat_abs s.requires.1.1.0
 
 returns-4 : tie.Need-returns-then-is_better
 returns-4 c =
     let e = c.before.before in
     let t = s e in
-    let better = sym c.before.is_better.ensures ∙ c.if-is_better.true in record { leads_2 = leads_beaten (x t) (to t) (p t) (lo t) (k t) (counted e) (is_c e) (is-d e) (best t) (leads t) better; small_2 = record { first = omega (arith, (small e.before).within); second = t.requires.d_bound } }
+    let better = sym c.before.is_better.ensures ∙ c.if-is_better.true in (
+      leads_beaten (x t) (to t) (p t) (lo t) (k t) (counted e) (is_c e) (is-d e) (best t) (leads t) better,
+      record { first = omega (arith, (small e.before).within); second = t.requires.1.1.1.0 },
+    )
 
 returns-5 : tie.Need-returns-else-is_better
 returns-5 c =
     let e = c.before.before in
     let t = s e in
     let worse = sym c.before.is_better.ensures ∙ c.if-is_better.false in
-    record { leads_2 = leads_unbeaten (x t) (to t) (p t) (lo t) (k t) (counted e) (is_c e) (is-d e) (best t) (leads t) worse; small_2 = bounded t }
+    (leads_unbeaten (x t) (to t) (p t) (lo t) (k t) (counted e) (is_c e) (is-d e) (best t) (leads t) worse, bounded t)
 
 pub offered_spec : {M : Type 1} → statement M
 offered_spec =

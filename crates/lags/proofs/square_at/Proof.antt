@@ -29,13 +29,13 @@ module _ (c : tie.After-v-1) where
   small = within-mag w16 sample c.v-1.given
 
   is-sample : Is w32 (of_z w32 (to_z w16 (of_z w16 sample))) sample
-  is-sample = is-cast (is-mag sample c.v-1.given) (fits-within small tt)
+  is-sample = is-cast {w = w16} (is-mag sample c.v-1.given) (fits-within small tt)
 
   square : Within (2 ^ 30) (sample *ℤ sample)
   square = within-mul small small
 
 cast-v : tie.Need-overflow_cast-v
-cast-v c = need_cast (is-mag (sample c) c.v-1.given) (fits-within (small c) tt)
+cast-v c = need_cast {w = w16} (is-mag (sample c) c.v-1.given) (fits-within (small c) tt)
 
 mul-result : tie.Need-overflow_mul-result
 mul-result c = need_mul (is-sample c) (is-sample c) (fits-within (square c) tt)
@@ -48,12 +48,12 @@ cast-result c =
 returns : tie.Need-returns-then-i-x
 returns c =
     let p = is_mul (is-sample c) (is-sample c) (fits-within (square c) tt) in
-    record { result_value = ap (λ (z : ℤ). pos (nat_abs z)) p.is ∙ (square-natural (sample c)).1; upper_bound = (within-is p (square c)).within }
+    (ap (λ (z : ℤ). pos (nat_abs z)) p.is ∙ (square-natural (sample c)).1, (within-is p (square c)).within)
 
 returns-2 : tie.Need-returns-else-i-x
 returns-2 c =
     let past : entry c.before.args.x.now c.before.args.i ≡ pos 0 = get_or-eq_default c.before.args.x.now (pos 0) c.if-i-x.false in
-    record { result_value = sym (λ i. past i *ℤ past i); upper_bound = omega arith }
+    (sym (λ i. past i *ℤ past i), omega arith)
 
 pub square_at_spec : {M : Type 1} → statement M
 square_at_spec =

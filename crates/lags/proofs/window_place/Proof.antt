@@ -20,16 +20,16 @@ cast-result : tie.Need-overflow_cast-result-then-m-p
 cast-result c = search rules
 
 returns : tie.Need-returns-in-Forward
-returns c = let a = c.before.before.args in sym (ap (λ (to : Direction). window to a.p a.m) c.enum_told-1.given.1)
+returns c = let a = c.before.args in sym (ap (λ (to : Direction). window to a.p a.m) c.in-Forward.is)
 
 returns-2 : tie.Need-returns-then-m-p
-returns-2 c = let a = c.before.before.before.args in sym (ap (λ (to : Direction). window to a.p a.m) c.before.enum_told-in-Backward-1.given.1)
+returns-2 c = let a = c.before.before.args in sym (ap (λ (to : Direction). window to a.p a.m) c.before.in-Backward.is)
 
 returns-3 : tie.Need-returns-else-m-p
 returns-3 c =
-    let a = c.before.before.before.args in
+    let a = c.before.before.args in
     let none : 0 ≡ a.p - a.m = omega (arith, c.if-m-p.false) in
-    none ∙ sym (ap (λ (to : Direction). window to a.p a.m) c.before.enum_told-in-Backward-1.given.1)
+    none ∙ sym (ap (λ (to : Direction). window to a.p a.m) c.before.in-Backward.is)
 
 pub window_place_spec : {M : Type 1} → statement M
 window_place_spec =

@@ -38,15 +38,15 @@ module _ (c : tie.Joined-s) where
 
   size_is : c.before.match-rate.size ≡ block_size rate
   size_is =
-      ⊎_elim (λ w. w.2 ∙ sym (ap block_size w.1.given.1)) (λ w. w.2 ∙ sym (ap block_size w.1.given.1))
-      c.before.match-rate.branch
+      ⊎_elim (λ w. w.size-is ∙ sym (ap block_size w.in-High.is)) (λ w. w.size-is ∙ sym (ap block_size w.in-Low.is))
+      c.before.match-rate.branch-raw
 
   ordinal-is : c.match-s.ordinal ≡ ordinal s
   ordinal-is =
-      ⊎_elim (λ w. w.2 ∙ sym (ap ordinal w.1.given.1))
-      (⊎_elim (λ w. w.2 ∙ sym (ap ordinal w.1.given.1))
-      (⊎_elim (λ w. w.2 ∙ sym (ap ordinal w.1.given.1)) (λ w. w.2 ∙ sym (ap ordinal w.1.given.1))))
-      c.match-s.branch
+      ⊎_elim (λ w. w.ordinal-is ∙ sym (ap ordinal w.in-Zero.is))
+      (⊎_elim (λ w. w.ordinal-is ∙ sym (ap ordinal w.in-One.is))
+      (⊎_elim (λ w. w.ordinal-is ∙ sym (ap ordinal w.in-Two.is)) (λ w. w.ordinal-is ∙ sym (ap ordinal w.in-Three.is))))
+      c.match-s.branch-raw
 
   place_is : 4 + c.match-s.ordinal * c.before.match-rate.size ≡ block_place rate s
   place_is = λ i. 4 + ordinal-is i * size_is i

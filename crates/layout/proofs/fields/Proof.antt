@@ -23,7 +23,7 @@ returns : tie.Need-returns-then-record-at
 returns c =
     let h = c.before.before in
     let r = h.before.before.args.«record».now in
-    sym (drop_of_length-le r {i = h.head_bytes-at.result-1} (omega arith)) ∙ ap (λ (n : ℕ). drop n r) h.head_bytes-at.ensures
+    sym (drop_of_length-le r {i = h.head_bytes-at.result} (omega arith)) ∙ ap (λ (n : ℕ). drop n r) h.head_bytes-at.ensures
 
 sub-result-2 : tie.Need-slice_bounds-result-count-2
 sub-result-2 c = search rules
@@ -38,7 +38,7 @@ returns-2 : tie.Need-returns
 returns-2 c =
     let h = c.before.before in
     let r = h.before.before.args.«record».now in
-    let at = h.head_bytes-at.result-1 in
+    let at = h.head_bytes-at.result in
     take_all (length r - at) (drop at r) (omega (arith, length-drop at r)) ∙ ap (λ (n : ℕ). drop n r) h.head_bytes-at.ensures
 
 pub fields_spec : {M : Type 1} → statement M

@@ -22,7 +22,7 @@ returns c =
     let d = v.before.before.before in
     let a = d.before.before.before.args in
     record_reply_lem a.given a.bytes.now d.decode-a.result v.verdict_number-n.result _ c.answer_text-text.result
-    d.decode-a.ensures.answer (v.verdict_number-n.ensures ∙ d.decode-a.ensures.number) d.decode-a.ensures.samples c.answer_text-text.ensures
+    d.decode-a.ensures.0 (v.verdict_number-n.ensures ∙ d.decode-a.ensures.1.0) d.decode-a.ensures.1.1 c.answer_text-text.ensures
 
 pub decoded_spec : {M : Type 1} → statement M
 decoded_spec =

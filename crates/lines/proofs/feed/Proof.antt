@@ -15,8 +15,8 @@ newline-requires c κs = tt
 
 slice-aggregate-part-reply : tie.Need-slice_bounds-part_reply-end
 slice-aggregate-part-reply c =
-    let n = c.before.before in
-    let xs = n.before.before.before.before.before.args.input.now in
+    let n = c in
+    let xs = n.args.input.now in
     sym (length-take-le n.newline-end.result xs (omega (arith, n.newline-end.ensures, newline_inside xs)))
 
 part-reply-requires : tie.Need-part_reply-a-requires
@@ -31,12 +31,12 @@ progress-by-requires c κs = tt
 returns : tie.Need-returns-then-end-input
 returns c =
     let p = c.before in
-    let n = p.before.before.before in
-    let a = n.before.before.before.before.before.args in
+    let n = p in
+    let a = n.args in
     let e = n.newline-end.ensures in
-    let l : p.part_reply-a.result ≡ line_reply (longer a.given a.input.now).line-1 a.given.state-1 =
-    p.part_reply-a.ensures ∙ ap (λ (k : ℕ). line_reply (pushed_all a.given.line-1 (take k a.input.now)) a.given.state-1) e in
-    c.progress_by.ensures ∙ (λ i. progress_by a.given.tallies-1 p.part_reply-a.result (e i + 1)) ∙ progress_ended a.given a.input.now p.part_reply-a.result (omega (arith, e)) l
+    let l : p.part_reply-a.result ≡ line_reply (longer a.given a.input.now).line a.given.state =
+    p.part_reply-a.ensures ∙ ap (λ (k : ℕ). line_reply (pushed_all a.given.line (take k a.input.now)) a.given.state) e in
+    c.progress_by.ensures ∙ (λ i. progress_by a.given.tallies p.part_reply-a.result (e i + 1)) ∙ progress_ended a.given a.input.now p.part_reply-a.result (omega (arith, e)) l
 
 append-requires : tie.Need-append-longer-requires
 append-requires c κs = tt
@@ -48,11 +48,11 @@ returns-2 : tie.Need-returns
 returns-2 c =
     let p = c.before in
     let n = p.before.before in
-    let a = n.before.before.before.before.before.args in
+    let a = n.args in
     let e = n.newline-end.ensures in
     let g : length a.input.now ≤ newline_at a.input.now = omega (arith, e) in
-    let l : p.append-longer.result ≡ (longer a.given a.input.now).line-1 =
-    p.append-longer.ensures ∙ ap (pushed_all a.given.line-1) (sym (take_all (newline_at a.input.now) a.input.now g)) in
+    let l : p.append-longer.result ≡ (longer a.given a.input.now).line =
+    p.append-longer.ensures ∙ ap (pushed_all a.given.line) (sym (take_all (newline_at a.input.now) a.input.now g)) in
     (λ i. record { stream = with_line a.given p.append-longer.result; text = c.no_text.result; used = e i })
     ∙ progress_going a.given a.input.now (with_line a.given p.append-longer.result) c.no_text.result g (ap (with_line a.given) l) c.no_text.ensures
 

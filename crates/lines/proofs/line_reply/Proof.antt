@@ -27,7 +27,7 @@ returns-2 : tie.Need-returns
 returns-2 c =
     let t = c.before in
     let a = t.before.before.before.args in
-    let n : length (characters a.line) ≤ 1098 = omega (arith, slice-aggregate-front-reply t, length-take a.line.len a.line.text-1) in
+    let n : length (characters a.line) ≤ 1098 = omega (arith, slice-aggregate-front-reply t, length-take a.line.len a.line.text) in
     c.front_reply.ensures ∙ line-text a.line a.given t.before.before.if-line.false n
 
 pub line_reply_spec : {M : Type 1} → statement M

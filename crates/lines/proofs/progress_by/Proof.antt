@@ -11,7 +11,7 @@ returns : tie.Need-returns
 returns c =
     let s = c.before.before.before.before.args in
     let a = s.a in
-    λ i. record { stream = record { state = a.state-1; line = c.before.blank_line.ensures i; tallies = c.count.ensures i }; text = a.text-1; used = s.used }
+    λ i. record { stream = record { state = a.state; line = c.before.blank_line.ensures i; tallies = c.count.ensures i }; text = a.text; used = s.used }
 
 pub progress_by_spec : {M : Type 1} → statement M
 progress_by_spec = tie.close (tie.spec blank-line-requires count-requires returns)

@@ -38,7 +38,7 @@ returns-2 c =
     let p = j.before.before in
     let a = p.before.before.args in
     let t : true ≡ is_record_line a.text.now = sym (not-false j.if-not-p.false) ∙ pairs p in
-    let e = ap (λ (q : Pairs). take q.count q.bytes-1) p.digit_pairs-p.ensures ∙ pairs_bytes a.text.now (pairs_short a.text.now (sym t)) in
+    let e = ap (λ (q : Pairs). take q.count q.bytes) p.digit_pairs-p.ensures ∙ pairs_bytes a.text.now (pairs_short a.text.now (sym t)) in
     c.record_reply.ensures ∙ (λ i. reply_of (t i) (e i) a.given)
 
 pub text_reply_spec : {M : Type 1} → statement M

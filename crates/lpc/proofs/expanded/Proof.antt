@@ -34,7 +34,7 @@ array-copy-out-cos-at : tie.Need-bounds-lsp-k invariant-loop decreases-loop
 array-copy-out-cos-at c = omega arith
 
 cos-at-requires : tie.Need-cos_at-c-requires invariant-loop decreases-loop
-cos-at-requires c κs = c.before.before.before.requires.table_value
+cos-at-requires c κs = c.before.before.before.requires.0
 
 times-factor-requires : tie.Need-times_factor-q-requires invariant-loop decreases-loop
 times-factor-requires c κs =
@@ -53,9 +53,9 @@ loop-again c =
     let l = c.before.before.before.before in
     let a = l.before.args in
     let k = l.loop-k.k in
-    let f = entry a.t2 (2 * k + a.first) in
+    let f = entry a.lsp (2 * k + a.first) in
     let e = back w16 c.before.cos_at-c.type_inv (c.before.cos_at-c.ensures ∙ ap cosine (read_back w16 f c.before.before.cos_at-arg-1.given)) in
-    (omega arith, c.times_factor-q.ensures ∙ (λ i. tabulate (times_factor (entry (l.loop-k.invariant.1 i)) (e i)) 11) ∙ product-step (factor_cosine a.t2 a.first) k 11)
+    (omega arith, c.times_factor-q.ensures ∙ (λ i. tabulate (times_factor (entry (l.loop-k.invariant.1 i)) (e i)) 11) ∙ product-step (factor_cosine a.lsp a.first) k 11)
 
 returns : tie.Need-returns invariant-loop decreases-loop
 returns c =

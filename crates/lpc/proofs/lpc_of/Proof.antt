@@ -19,10 +19,10 @@ abbrev decreases-loop : tie.decreases-loop-j
 decreases-loop table pz qz a₀ j₀ a j = 10 - j
 
 expanded-requires : tie.Need-expanded-pz-requires invariant-loop decreases-loop
-expanded-requires c κs = record { table_value = c.requires; first_bound = omega arith }
+expanded-requires c κs = (c.requires, omega arith)
 
 expanded-requires-2 : tie.Need-expanded-qz-requires invariant-loop decreases-loop
-expanded-requires-2 c κs = record { table_value = c.before.requires; first_bound = omega arith }
+expanded-requires-2 c κs = (c.before.requires, omega arith)
 
 loop-holds : tie.Need-loop-j-init invariant-loop decreases-loop
 loop-holds c = fills_start refl
@@ -66,7 +66,16 @@ rounded-q13-requires c κs =
     let j = l.loop-j.j in
     let h = polynomial-within s.args.lsp (all_fit 10 s.well_formed.1.0) in
     let x : AllWithin (2 ^ 37) p.result = rw p.ensures (h _ 5 (lit≤ tt)) in
-    let y : AllWithin (2 ^ 37) q.result = rw q.ensures (h _ 5 (lit≤ tt)) in record { within = within-is (is-mag (entry p.result (j + 1)) c.before.before.before.rounded_q13-arg-1.given) (x.at (j + 1)); within_2 = within-is (is-mag (entry p.result j) c.before.before.rounded_q13-arg-in-loop-j-1.given) (x.at j); within_3 = within-is (is-mag (entry q.result (j + 1)) c.before.rounded_q13-arg-in-loop-j-2-1.given) (y.at (j + 1)); within_4 = within-is (is-mag (entry q.result j) c.rounded_q13-arg-in-loop-j-3-1.given) (y.at j) }
+    let y : AllWithin (2 ^ 37) q.result = rw q.ensures (h _ 5 (lit≤ tt)) in (
+      within-is {w = w64} (is-mag (entry p.result (j + 1)) c.before.before.before.rounded_q13-arg-1.given) (x.at (j + 1)),
+      (
+        within-is {w = w64} (is-mag (entry p.result j) c.before.before.rounded_q13-arg-in-loop-j-1.given) (x.at j),
+        (
+          within-is {w = w64} (is-mag (entry q.result (j + 1)) c.before.rounded_q13-arg-in-loop-j-2-1.given) (y.at (j + 1)),
+          within-is {w = w64} (is-mag (entry q.result j) c.rounded_q13-arg-in-loop-j-3-1.given) (y.at j),
+        ),
+      ),
+    )
 
 mul-a : tie.Need-offset_bounds-a-j invariant-loop decreases-loop
 mul-a c = omega arith

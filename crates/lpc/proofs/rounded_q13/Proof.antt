@@ -15,9 +15,9 @@ use Rattle.lpc.proofs.rounded_q13.Tie as tie
 fits : (s : tie.Start) → let a = s.args in let sum = a.p1 +ℤ a.p0 +ℤ a.q1 -ℤ a.q0 in
     SFits w64 (a.p1 +ℤ a.p0) × SFits w64 (a.p1 +ℤ a.p0 +ℤ a.q1) × SFits w64 sum × SFits w64 (pos 1024 -ℤ floor_div sum 2) × SFits w32 (floor_div (pos 1024 -ℤ floor_div sum 2) 2048)
 fits s =
-    let p = within-add s.requires.within s.requires.within_2 in
-    let q = within-add p s.requires.within_3 in
-    let r = within-sub q s.requires.within_4 in
+    let p = within-add s.requires.0 s.requires.1.0 in
+    let q = within-add p s.requires.1.1.0 in
+    let r = within-sub q s.requires.1.1.1 in
     let t = within-sub (within_num (pos 1024)) (within-shr-by (2 ^ 38) 2 (lit≤ tt) r) in
     (fits-within p tt, fits-within q tt, fits-within r tt, fits-within t tt, fits-within (within-shr-by (2 ^ 28) 2048 (lit≤ tt) (within_weaken t tt)) tt)
 

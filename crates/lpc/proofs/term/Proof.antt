@@ -12,9 +12,9 @@ use Rattle.lpc.proofs.term.Tie as tie
 fits : (s : tie.Start) → let a = s.args in
     SFits w64 (a.y *ℤ a.c) × SFits w64 (a.x -ℤ floor_div (a.y *ℤ a.c) 8192) × SFits w64 (factor_term a.c a.x a.y a.z)
 fits s =
-    let p = within-mul s.requires.within_2 (within-fits s.ranges.c) in
-    let q = within-sub s.requires.within (within-shr 8192 p) in
-    (fits-within p tt, fits-within q tt, fits-within (within-add q s.requires.within_3) tt)
+    let p = within-mul s.requires.1.0 (within-fits s.ranges.c) in
+    let q = within-sub s.requires.0 (within-shr 8192 p) in
+    (fits-within p tt, fits-within q tt, fits-within (within-add q s.requires.1.1) tt)
 
 cast-result : tie.Need-overflow_cast-result
 cast-result c = search tree

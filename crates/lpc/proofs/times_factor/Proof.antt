@@ -41,7 +41,10 @@ term-requires c κs =
     let y = c.before.before.before.earlier-y in
     let z = c.before.earlier-z in
     let h = l.before.requires.at in
-    let i = l.loop-i.i in record { within = within-is (is-mag (entry l.before.args.p i) c.term-arg-1.given) (h i); within_2 = within-is (is-result w64 y.result y.type_inv y.ensures) (before-within h i 1); within_3 = within-is (is-result w64 z.result z.type_inv z.ensures) (before-within h i 2) }
+    let i = l.loop-i.i in (
+      within-is {w = w64} (is-mag (entry l.before.args.p i) c.term-arg-1.given) (h i),
+      (within-is (is-result w64 y.result y.type_inv y.ensures) (before-within h i 1), within-is (is-result w64 z.result z.type_inv z.ensures) (before-within h i 2)),
+    )
 
 mul-q : tie.Need-offset_bounds-q-i invariant-loop decreases-loop
 mul-q c = omega arith

@@ -52,8 +52,8 @@ loop-again c =
     let l = c.before.before.before.before in
     let a = l.before.args in
     let k = l.loop-i.i in
-    let p = read_back w16 (entry a.t3 k) c.before.before.weighed-arg-1.given in
-    let q = read_back w16 (entry a.t4 k) c.before.weighed-arg-in-loop-i-1.given in
+    let p = read_back w16 (entry a.prev k) c.before.before.weighed-arg-1.given in
+    let q = read_back w16 (entry a.cur k) c.before.weighed-arg-in-loop-i-1.given in
     fills_next l.loop-i.invariant (omega arith) (back w16 c.weighed.type_inv (c.weighed.ensures ∙ (λ j. rounded16 (mac32 (mult32 (p j) (to_z w16 (of_z w16 a.wp))) (q j) (to_z w16 (of_z w16 a.wc))))))
 
 returns : tie.Need-returns invariant-loop decreases-loop

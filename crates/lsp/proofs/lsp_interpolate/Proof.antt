@@ -29,13 +29,13 @@ weights : (s : tie.Start) (a b : ℕ) → a + b ≡ 4 → let p = s.args.prev in
 weights s a b e = blend-operators a b e s.args.prev s.args.cur (all_fit 10 s.well_formed.1.0) (all_fit 10 s.well_formed.1.1.0)
 
 returns : tie.Need-returns-in-0
-returns c = c.blended.ensures ∙ weights c.before.before 3 1 refl ∙ chosen c.before.before c.before.in-0.keys1
+returns c = c.blended.ensures ∙ weights c.before.before 3 1 refl ∙ chosen c.before.before c.before.in-0.is
 
 returns-2 : tie.Need-returns-in-1
-returns-2 c = c.blended-in-1.ensures ∙ weights c.before.before 2 2 refl ∙ chosen c.before.before c.before.in-1.keys2
+returns-2 c = c.blended-in-1.ensures ∙ weights c.before.before 2 2 refl ∙ chosen c.before.before c.before.in-1.is
 
 returns-3 : tie.Need-returns-in-2
-returns-3 c = c.blended-in-2.ensures ∙ weights c.before.before 1 3 refl ∙ chosen c.before.before c.before.in-2.keys3
+returns-3 c = c.blended-in-2.ensures ∙ weights c.before.before 1 3 refl ∙ chosen c.before.before c.before.in-2.is
 
 later : (k : ℕ) → (k ≡ 0 → ⊥) → (k ≡ 1 → ⊥) → (k ≡ 2 → ⊥) → (previous current : List ℤ) → current ≡ interpolated k previous current
 later zero a b d previous current = absurd (a refl)
@@ -46,7 +46,7 @@ later (suc (suc (suc k))) a b d previous current = refl
 returns-4 : tie.Need-returns-in_default
 returns-4 c =
     let a = c.before.args in
-    let r = c.in_default.rest in
+    let r = c.in_default.in_default-own.rest in
     later a.k r.0.0.1 r.0.1 r.1 a.prev a.cur
 
 pub lsp_interpolate_spec : {M : Type 1} → statement M

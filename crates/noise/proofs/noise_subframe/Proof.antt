@@ -58,7 +58,7 @@ returns c =
     let all : l.n ≡ 60 = omega (arith, l.invariant.1.bound) in
     let filled = fills_end l.invariant.1 c.loop-n-test.false in
     let w = word_after a.start in
-    record { out_value = filled ∙ (λ k. tabulate (λ n. mult16 (gain k) (noise (w (n + 1)))) 60); word_value = l.invariant.0 ∙ ap w all }
+    (filled ∙ (λ k. tabulate (λ n. mult16 (gain k) (noise (w (n + 1)))) 60), l.invariant.0 ∙ ap w all)
 
 pub noise_subframe_spec : {M : Type 1} → statement M
 noise_subframe_spec =

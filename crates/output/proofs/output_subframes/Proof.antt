@@ -21,9 +21,9 @@ loop-holds : tie.Need-loop-s-init invariant-loop decreases-loop
 loop-holds c =
     let a = c.args in (
       omega arith,
-      written_start a.on a.t3 a.t4 a.f a.samples-1.now,
+      written_start a.on a.sets a.inputs a.f a.samples.now,
       c.requires,
-      filters_zero a.on a.t3 a.t4 a.f,
+      filters_zero a.on a.sets a.inputs a.f,
     )
 
 mul-a : tie.Need-offset_bounds-sets-s invariant-loop decreases-loop
@@ -75,16 +75,16 @@ loop-again c =
     let v = l.loop-s.invariant in
     let r = c.before.output_subframe-after in
     let m = 60 * k + 60 - 60 * k in
-    let o = a.samples-1.now in
-    let x = l.loop-s.samples-1 in
-    let part = r.ensures.1 ∙ ap (subframe_output a.on (get_or a.t3 k []) (get_or a.t4 k [])) v.3 in
-    let passed = r.ensures.0 ∙ ap (filters_after a.on (get_or a.t3 k []) (get_or a.t4 k [])) v.3 in
-    let e : put_mid (60 * k) m x r.new.0 ≡ written a.on a.t3 a.t4 a.f o (k + 1)
-    = ap (put_mid (60 * k) m x) part ∙ written_next a.on a.t3 a.t4 a.f o x k m (omega arith) v.1 in (
+    let o = a.samples.now in
+    let x = l.loop-s.samples in
+    let part = r.ensures.1 ∙ ap (subframe_output a.on (get_or a.sets k []) (get_or a.inputs k [])) v.3 in
+    let passed = r.ensures.0 ∙ ap (filters_after a.on (get_or a.sets k []) (get_or a.inputs k [])) v.3 in
+    let e : put_mid (60 * k) m x r.new.part ≡ written a.on a.sets a.inputs a.f o (k + 1)
+    = ap (put_mid (60 * k) m x) part ∙ written_next a.on a.sets a.inputs a.f o x k m (omega arith) v.1 in (
       omega arith,
       e,
-      ap length e ∙ written-length a.on a.t3 a.t4 a.f o (k + 1) l.before.requires (omega arith),
-      passed ∙ sym (filters_step a.on a.t3 a.t4 a.f k),
+      ap length e ∙ written-length a.on a.sets a.inputs a.f o (k + 1) l.before.requires (omega arith),
+      passed ∙ sym (filters_step a.on a.sets a.inputs a.f k),
     )
 
 same_length : tie.Need-shape_of-samples invariant-loop decreases-loop
@@ -94,7 +94,10 @@ returns : tie.Need-returns invariant-loop decreases-loop
 returns c =
     let a = c.before.before.args in
     let v = c.before.loop-s.invariant in
-    let e : c.before.loop-s.s ≡ 4 = omega arith in record { memories = v.3 ∙ ap (filters_at a.on a.t3 a.t4 a.f) e; samples = v.1 ∙ written_end a.on a.t3 a.t4 a.f a.samples-1.now c.before.loop-s.s c.before.before.requires e }
+    let e : c.before.loop-s.s ≡ 4 = omega arith in (
+      v.3 ∙ ap (filters_at a.on a.sets a.inputs a.f) e,
+      v.1 ∙ written_end a.on a.sets a.inputs a.f a.samples.now c.before.loop-s.s c.before.before.requires e,
+    )
 
 pub output_subframes_spec : {M : Type 1} → statement M
 output_subframes_spec =

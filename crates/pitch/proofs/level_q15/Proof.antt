@@ -27,7 +27,7 @@ returns : tie.Need-returns
 returns c =
     let a = c.before.before.before.args in
     let r = c.isqrt64.ensures ∙ ap root (ratio c.before) in
-    record { value = r; upper_bound = subst (λ (n : ℕ). n ≤ 2 ^ 15) (sym r) (root-most (a.t * 2 ^ 30 / a.e) (ratio_most a.t a.e c.before.before.before.requires)) }
+    (r, subst (λ (n : ℕ). n ≤ 2 ^ 15) (sym r) (root-most (a.t * 2 ^ 30 / a.e) (ratio_most a.t a.e c.before.before.before.requires)))
 
 pub level_q15_spec : {M : Type 1} → statement M
 level_q15_spec = tie.close (tie.spec product-requires divide-requires isqrt64-requires returns)

@@ -28,7 +28,7 @@ module _ (c : tie.Start) where
   is-z = is-cast (is_arg c.ranges.z) (widen c.ranges.z tt)
 
   product : Within (40960 * 32768) (z *ℤ pos g)
-  product = within-mul c.requires.within (record { within = c.requires.g_bound })
+  product = within-mul c.requires.1 (record { within = c.requires.0 })
 
   sum : Within (40961 * 32768) (z *ℤ pos g +ℤ pos 16384)
   sum = within_weaken (within-add product (within_num (pos 16384))) tt
@@ -46,7 +46,7 @@ cast-result : tie.Need-overflow_cast-result
 cast-result c = need_cast (is_arg c.ranges.z) (widen c.ranges.z tt)
 
 cast-result-2 : tie.Need-overflow_cast-result-2
-cast-result-2 c = fits-within {B = 32768} (record { within = c.requires.g_bound }) tt
+cast-result-2 c = fits-within {B = 32768} (record { within = c.requires.0 }) tt
 
 mul-result : tie.Need-overflow_mul-result
 mul-result c = need_mul (is-z c) (is-g c) (product-fits c)

@@ -10,13 +10,13 @@ returns : tie.Need-returns-then-e-t
 returns c =
     let e = c.before.mixed_energy-e in
     let a = c.before.before.before.args in
-    levelled_less a.t1 a.t e.result e.ensures c.if-e-t.true
+    levelled_less a.v a.t e.result e.ensures c.if-e-t.true
 
 level-q15-requires : tie.Need-level_q15-requires
 level-q15-requires c κs = c.if-e-t.false
 
 scaled-subframe-requires : tie.Need-scaled_subframe-requires
-scaled-subframe-requires c κs = record { g_bound = c.level_q15.ensures.upper_bound; all_within = c.before.before.before.before.requires }
+scaled-subframe-requires c κs = (c.level_q15.ensures.1, c.before.before.before.before.requires)
 
 returns-2 : tie.Need-returns
 returns-2 c =
@@ -24,7 +24,7 @@ returns-2 c =
     let e = l.before.before.mixed_energy-e in
     let a = l.before.before.before.before.args in
     c.scaled_subframe.ensures
-    ∙ levelled-scaled a.t1 a.t e.result e.ensures l.before.if-e-t.false l.level_q15.result l.level_q15.ensures.value
+    ∙ levelled-scaled a.v a.t e.result e.ensures l.before.if-e-t.false l.level_q15.result l.level_q15.ensures.0
 
 pub levelled_subframe_spec : {M : Type 1} → statement M
 levelled_subframe_spec =

@@ -18,10 +18,10 @@ cast-result-2 : tie.Need-overflow_cast-result-in-Low
 cast-result-2 c = search rules
 
 returns : tie.Need-returns-in-High
-returns c = record { value = sym (ap gamma c.enum_told-1.given.1); upper_bound = omega arith }
+returns c = (sym (ap gamma c.in-High.is), omega arith)
 
 returns-2 : tie.Need-returns-in-Low
-returns-2 c = record { value = sym (ap gamma c.enum_told-in-Low-1.given.1); upper_bound = omega arith }
+returns-2 c = (sym (ap gamma c.in-Low.is), omega arith)
 
 pub ltp_gamma_q15_spec : {M : Type 1} → statement M
 ltp_gamma_q15_spec = tie.close (tie.spec enum_told cast-result enum-told-2 cast-result-2 returns returns-2)

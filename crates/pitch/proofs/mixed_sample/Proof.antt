@@ -63,7 +63,7 @@ returns : tie.Need-returns
 returns c =
     let p = fits-within (product c) tt in
     let r = is-add (is-s c) (is-shr 32768 (is_mul (is-w c) (is_y c) p) p) (fits-within (sum c) tt) in
-    record { value = r.is; within = within-is r (sum c) }
+    (r.is, within-is r (sum c))
 
 pub mixed_sample_spec : {M : Type 1} → statement M
 mixed_sample_spec = tie.close (tie.spec cast-result cast-result-2 cast-result-3 mul-result add-result returns)

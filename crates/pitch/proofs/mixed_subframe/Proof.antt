@@ -39,7 +39,7 @@ element-copy-out-mixed-sample-2 : tie.Need-bounds-x-q invariant-loop decreases-l
 element-copy-out-mixed-sample-2 c = omega arith
 
 mixed-sample-requires : tie.Need-mixed_sample-requires invariant-loop decreases-loop
-mixed-sample-requires c κs = c.before.before.before.before.requires.w_bound
+mixed-sample-requires c κs = c.before.before.before.before.requires.1
 
 mul-v : tie.Need-offset_bounds-v-n invariant-loop decreases-loop
 mul-v c = omega arith
@@ -62,12 +62,12 @@ loop-again c =
     let s = read_back w16 (entry a.x.now (a.p + n)) c.before.before.mixed_sample-arg-1.given in
     let y = read_back w16 (entry a.x.now (a.q + n)) c.before.mixed_sample-arg-in-loop-n-1.given in (
       fills_next l.loop-n.invariant.0 (omega arith) (back w32 r.type_inv (r.ensures.0 ∙ (λ i. mixed_sample a.w (s i) (y i)))),
-      all_within_set n l.loop-n.invariant.1 (within-is (is-mag r.result r.type_inv) r.ensures.1),
+      all_within_set n l.loop-n.invariant.1 (within-is {w = w32} (is-mag r.result r.type_inv) r.ensures.1),
     )
 
 returns : tie.Need-returns invariant-loop decreases-loop
 unfolding mixed
-returns c = record { value = fills_end c.before.loop-n.invariant.0 (omega arith); all_within = c.before.loop-n.invariant.1 }
+returns c = (fills_end c.before.loop-n.invariant.0 (omega arith), c.before.loop-n.invariant.1)
 
 pub mixed_subframe_spec : {M : Type 1} → statement M
 mixed_subframe_spec =

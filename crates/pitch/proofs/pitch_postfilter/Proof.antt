@@ -35,7 +35,7 @@ returns c =
     let a = t.before.args in
     let lag = limited_lag a.lag in
     c.subframe.ensures
-    ∙ postfiltered_silent a.signal.now a.rate (p t) lag e.energy_from-t.result e.energy_from-t.ensures.result_value c.before.if-t-eq0.true
+    ∙ postfiltered_silent a.signal.now a.rate (p t) lag e.energy_from-t.result e.energy_from-t.ensures.0 c.before.if-t-eq0.true
     ∙ ap (λ (n : ℕ). postfiltered a.signal.now a.rate n lag) t.subframe_place-p.ensures
 
 chosen-lag-requires : tie.Need-chosen_lag-requires
@@ -44,7 +44,13 @@ chosen-lag-requires c κs = tt
 applied-choice-requires : tie.Need-applied_choice-requires
 applied-choice-requires c κs =
     let t = c.before.before.before.before in
-    let k = c.chosen_lag in record { p_bound = placed t; small = k.ensures.1.0; inside = subst (λ (n : ℕ). Inside k.result.to n k.result.best) (sym t.subframe_place-p.ensures) k.ensures.1.1 }
+    let k = c.chosen_lag in (
+      placed t,
+      (
+        k.ensures.1.0,
+        subst (λ (n : ℕ). Inside k.result.to n k.result.best) (sym t.subframe_place-p.ensures) k.ensures.1.1,
+      ),
+    )
 
 returns-2 : tie.Need-returns
 returns-2 c =
@@ -55,7 +61,7 @@ returns-2 c =
     let x = a.signal.now in
     let lag = limited_lag a.lag in
     let place = t.subframe_place-p.ensures in
-    let choice = k.chosen_lag.ensures.value ∙ (λ i. chosen_lag x (sym place i) (ap limited_lag (to_z-of_z {w = w32} t.before.ranges.lag) i)) in
+    let choice = k.chosen_lag.ensures.0 ∙ (λ i. chosen_lag x (sym place i) (ap limited_lag (to_z-of_z {w = w32} t.before.ranges.lag) i)) in
     c.applied_choice.ensures
     ∙ postfiltered-chosen x a.rate (p t) lag e.result e.ensures.0 k.before.if-t-eq0.false k.chosen_lag.result choice
     ∙ ap (λ (n : ℕ). postfiltered x a.rate n lag) place

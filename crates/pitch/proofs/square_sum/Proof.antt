@@ -15,7 +15,7 @@ use Rattle.pitch.proofs.square_sum.Tie as tie
 
 module _ (c : tie.Start) where
   square : Within (40960 * 40960) (c.args.z *ℤ c.args.z)
-  square = within-mul c.requires.within c.requires.within
+  square = within-mul c.requires.1 c.requires.1
 
   is-z : Is w32 (of_z w32 c.args.z) c.args.z
   is-z = is_arg c.ranges.z

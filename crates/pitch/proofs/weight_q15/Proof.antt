@@ -26,7 +26,7 @@ returns : tie.Need-returns
 returns c =
     let g = c.before.gain_q15-g in
     let w = c.ltp_gamma_q15-w in
-    record { value = (λ i. g.ensures.0 i * w.ensures.0 i / 32768); upper_bound = omega (arith, weighted-most g.result w.result g.ensures.1 w.ensures.1) }
+    ((λ i. g.ensures.0 i * w.ensures.0 i / 32768), omega (arith, weighted-most g.result w.result g.ensures.1 w.ensures.1))
 
 pub weight_q15_spec : {M : Type 1} → statement M
 weight_q15_spec = tie.close (tie.spec gain-q15-requires ltp-gamma-q15-requires mul-result cast-result returns)

@@ -26,8 +26,8 @@ returns : tie.Need-returns
 returns c =
     let a = c.before.args in
     let row : 5 - (6 - a.wanted) ≡ a.wanted - 1 = omega arith in
-    ap (λ (t : List ℕ). get_or t ((6 - a.wanted) * 30 + a.i) 0) c.before.requires.table_value
-    ∙ weight_rule (6 - a.wanted) a.i (omega arith) c.before.requires.i_bound ∙ ap (choose (29 - a.i)) row
+    ap (λ (t : List ℕ). get_or t ((6 - a.wanted) * 30 + a.i) 0) c.before.requires.0
+    ∙ weight_rule (6 - a.wanted) a.i (omega arith) c.before.requires.1.0 ∙ ap (choose (29 - a.i)) row
 
 pub comb_weight_spec : {M : Type 1} → statement M
 comb_weight_spec =

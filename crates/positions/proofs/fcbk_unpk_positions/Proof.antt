@@ -37,7 +37,7 @@ loop-holds c =
 walk-slot-requires : tie.Need-walk_slot-next-requires invariant-loop decreases-loop
 walk-slot-requires c κs =
     let l = c.before.before in
-    record { table_value = l.before.before.mpmlq_weights-table.ensures; i_bound = c.before.loop-i-test.true; wanted_bound = l.loop-i.invariant.1.0; found_bound = l.loop-i.invariant.1.1.0 }
+    (l.before.before.mpmlq_weights-table.ensures, (c.before.loop-i-test.true, (l.loop-i.invariant.1.0, l.loop-i.invariant.1.1.0)))
 
 add-i : tie.Need-overflow_add-i invariant-loop decreases-loop
 add-i c = omega arith
@@ -51,8 +51,8 @@ loop-again c =
     let l = c.before.before.before in
     let i = l.loop-i.i in
     let next : 30 - (i + 1) ≡ 29 - i = omega arith in
-    let same = ap (λ (k : ℕ). r.found + bits (walk k r.wanted r.rest)) next ∙ c.walk_slot-next.ensures.rest_value ∙ l.loop-i.invariant.1.1.1 in
-    (omega arith, (c.walk_slot-next.ensures.wanted_bound_2, (c.walk_slot-next.ensures.found_bound_2, same)))
+    let same = ap (λ (k : ℕ). r.found + bits (walk k r.wanted r.rest)) next ∙ c.walk_slot-next.ensures.0 ∙ l.loop-i.invariant.1.1.1 in
+    (omega arith, (c.walk_slot-next.ensures.1.0, (c.walk_slot-next.ensures.1.1, same)))
 
 returns-2 : tie.Need-returns invariant-loop decreases-loop
 returns-2 c =

@@ -13,10 +13,10 @@ returns c =
     let w = s.args.w in
     let none : (n : ℕ) → bits (walk n w.wanted w.rest) ≡ 0 =
     λ n. ap (λ (k : ℕ). bits (walk n k w.rest)) c.if-w-eq0.true ∙ bits_done n w.rest in
-    record { rest_value = ap (λ (b : ℕ). w.found + b) (none (29 - i) ∙ sym (none (30 - i))); wanted_bound_2 = s.requires.wanted_bound; found_bound_2 = omega (arith, double i, s.requires.found_bound) }
+    (ap (λ (b : ℕ). w.found + b) (none (29 - i) ∙ sym (none (30 - i))), (s.requires.1.1.0, omega (arith, double i, s.requires.1.1.1)))
 
 comb-weight-requires : tie.Need-comb_weight-weight-requires
-comb-weight-requires c κs = record { table_value = c.before.before.requires.table_value; i_bound = c.before.before.requires.i_bound; wanted_nonzero = omega arith }
+comb-weight-requires c κs = (c.before.before.requires.0, (c.before.before.requires.1.0, omega arith))
 
 cast-bit : tie.Need-overflow_cast-bit
 cast-bit c = omega arith
@@ -33,10 +33,10 @@ returns-2 c =
     let s = n.before.before.before in
     let i = s.args.i in
     let w = s.args.w in
-    let set = bit_set i w.found s.requires.i_bound s.requires.found_bound in
+    let set = bit_set i w.found s.requires.1.0 s.requires.1.1.1 in
     let some : 0 < w.wanted = omega (arith, n.before.if-w-eq0.false) in
-    let hit = bits_hit i w.wanted w.rest n.comb_weight-weight.result s.requires.i_bound some n.comb_weight-weight.ensures c.before.before.if-w-weight.true in
-    rw set (omega (arith, hit), (omega (arith, s.requires.wanted_bound), omega (arith, double i, s.requires.found_bound)))
+    let hit = bits_hit i w.wanted w.rest n.comb_weight-weight.result s.requires.1.0 some n.comb_weight-weight.ensures c.before.before.if-w-weight.true in
+    rw set (omega (arith, hit), (omega (arith, s.requires.1.1.0), omega (arith, double i, s.requires.1.1.1)))
 
 returns-3 : tie.Need-returns-else-w-weight
 returns-3 c =
@@ -45,8 +45,8 @@ returns-3 c =
     let i = s.args.i in
     let w = s.args.w in
     let some : 0 < w.wanted = omega (arith, n.before.if-w-eq0.false) in
-    let miss = bits_miss i w.wanted w.rest n.comb_weight-weight.result s.requires.i_bound some n.comb_weight-weight.ensures c.before.if-w-weight.false in
-    record { rest_value = ap (λ (b : ℕ). w.found + b) (sym miss); wanted_bound_2 = s.requires.wanted_bound; found_bound_2 = omega (arith, double i, s.requires.found_bound) }
+    let miss = bits_miss i w.wanted w.rest n.comb_weight-weight.result s.requires.1.0 some n.comb_weight-weight.ensures c.before.if-w-weight.false in
+    (ap (λ (b : ℕ). w.found + b) (sym miss), (s.requires.1.1.0, omega (arith, double i, s.requires.1.1.1)))
 
 pub walk_slot_spec : {M : Type 1} → statement M
 walk_slot_spec =

@@ -50,24 +50,24 @@ module _ (s : tie.Start) where
   prev-fits = let fields = s.well_formed.0.1.1 in record { sfits = fields.1.1.0.1 }
 
   k1-fits : SFits w16 s.args.pf.tilt_k1
-  k1-fits = let fields = s.good.0.1.1 in record { sfits = fields.1.1.1.0.1 }
+  k1-fits = let fields = s.well_formed.0.1.1 in record { sfits = fields.1.1.1.0.1 }
 
   gain-fits : SFits w32 s.args.pf.agc_gain_q12
-  gain-fits = let fields = s.good.0.1.1 in record { sfits = fields.1.1.1.1.0.1 }
+  gain-fits = let fields = s.well_formed.0.1.1 in record { sfits = fields.1.1.1.1.0.1 }
 
 -- ---- what each call answers, of the memory and the subframe
 
-formant-is : (c : tie.After-formant_subframe-f) → let a = (start_of c).args in c.formant_subframe-f.result.out-1 ≡ formant_of a.pf a.a a.t3
-formant-is c = c.formant_subframe-f.ensures.out_value
+formant-is : (c : tie.After-formant_subframe-f) → let a = (start_of c).args in c.formant_subframe-f.result.out ≡ formant_of a.pf a.a a.y
+formant-is c = c.formant_subframe-f.ensures.0
 
-energy-is : (c : tie.After-energy_from-r0) → let a = (start_of (filter-of c)).args in c.energy_from-r0.result ≡ nat_abs (energy a.t3 0 60)
-energy-is c = ap nat_abs c.energy_from-r0.ensures.result_value
+energy-is : (c : tie.After-energy_from-r0) → let a = (start_of (filter-of c)).args in c.energy_from-r0.result ≡ nat_abs (energy a.y 0 60)
+energy-is c = ap nat_abs c.energy_from-r0.ensures.0
 
 tilt-is : (c : tie.After-smoothed_tilt-k1) → let a = (start_of (filter-of (energy-of (correlation-of c)))).args in
-    to_z w16 (of_z w16 c.smoothed_tilt-k1.result) ≡ tilt_after a.pf a.a a.t3
+    to_z w16 (of_z w16 c.smoothed_tilt-k1.result) ≡ tilt_after a.pf a.a a.y
 tilt-is c =
     let q = correlation-of c in
-    let r1 = back w64 q.correlate-r1.ok q.correlate-r1.ensures.value in
+    let r1 = back w64 q.correlate-r1.type_inv q.correlate-r1.ensures.0 in
     let r0 = energy-is (energy-of q) in
     let t = c.before.before.tilt_quotient in
     let k = back w32 t.type_inv (t.ensures ∙ (λ i. tilt_of (r1 i) (r0 i))) in
@@ -75,18 +75,18 @@ tilt-is c =
     back w16 c.smoothed_tilt-k1.type_inv (c.smoothed_tilt-k1.ensures ∙ (λ i. smoothed (k1 i) (k i)))
 
 compensated-is : (c : tie.After-compensated_subframe-v) → let a = (start_of (filter-of (measured-of c))).args in
-    c.compensated_subframe-v.result ≡ compensated_of a.pf a.a a.t3
+    c.compensated_subframe-v.result ≡ compensated_of a.pf a.a a.y
 compensated-is c =
     let f = filter-of (measured-of c) in
     let prev = to_z-of_z {w = w16} (prev-fits (start_of f)) in
     c.compensated_subframe-v.ensures ∙ (λ i. compensated (tilt-is (tilt-of c) i) (prev i) (formant-is f i))
 
 target_is : (c : tie.After-gain_target-target) → let a = (start_of (filter-of (measured-of (compensation-of c)))).args in
-    to_z w32 (of_z w32 c.gain_target-target.result) ≡ target_of a.pf a.a a.t3
+    to_z w32 (of_z w32 c.gain_target-target.result) ≡ target_of a.pf a.a a.y
 target_is c =
     let v = compensation-of c in
     let e = energy-is (measured-of v) in
-    let f = ap nat_abs c.before.energy_from.ensures.result_value ∙ ap (λ (z : List ℤ). nat_abs (energy z 0 60)) (compensated-is v) in
+    let f = ap nat_abs c.before.energy_from.ensures.0 ∙ ap (λ (z : List ℤ). nat_abs (energy z 0 60)) (compensated-is v) in
     back w32 c.gain_target-target.type_inv (c.gain_target-target.ensures ∙ (λ i. pos (gain_target (e i) (f i))))
 
 formant-subframe-requires : tie.Need-formant_subframe-f-requires
@@ -110,7 +110,7 @@ correlate-requires c κs = tt
 tilt-quotient-requires : tie.Need-tilt_quotient-requires
 tilt-quotient-requires c κs =
     let r = c.correlate-r1 in
-    record { within = within-is (is-mag r.result r.type_inv) (within_weaken r.ensures.1 tt); r0_bound = omega (arith, (energy-of c).energy_from-r0.ensures.upper_bound) }
+    (within-is {w = w64} (is-mag r.result r.type_inv) (within_weaken r.ensures.1 tt), omega (arith, (energy-of c).energy_from-r0.ensures.1))
 
 smoothed-tilt-requires : tie.Need-smoothed_tilt-k1-requires
 smoothed-tilt-requires c κs =
@@ -129,7 +129,7 @@ energy-from-requires-2 : tie.Need-energy_from-requires
 energy-from-requires-2 c κs = tt
 
 gain-target-requires : tie.Need-gain_target-target-requires
-gain-target-requires c κs = omega (arith, (measured-of c.before.before).energy_from-r0.ensures.upper_bound)
+gain-target-requires c κs = omega (arith, (measured-of c.before.before).energy_from-r0.ensures.1)
 
 gained-subframe-requires : tie.Need-gained_subframe-g-requires
 gained-subframe-requires c κs = tt
@@ -150,13 +150,16 @@ returns c =
     let gain = to_z-of_z {w = w32} (gain-fits (start_of f)) in
     let r = g.gained_subframe-g in
     let moved = back w32 c.struct_told-4-1.given.1.0.1 (r.ensures.1 ∙ (λ i. gain_after (target i) (gain i) 60)) in
-    let last = back w16 c.before.result-1.given (ap (λ (z : List ℤ). entry z 59) (formant-is f)) in record { out_value = r.ensures.0 ∙ (λ i. gained (target i) (gain i) (compensated-is v i)); pf_value = (λ i. record {
+    let last = back w16 c.before.result-1.given (ap (λ (z : List ℤ). entry z 59) (formant-is f)) in (
+      r.ensures.0 ∙ (λ i. gained (target i) (gain i) (compensated-is v i)),
+      (λ i. record {
         num_mem = c.before.before.before.last_ten-num_after.ensures i;
-        den_mem = f.formant_subframe-f.ensures.mem_value i;
+        den_mem = f.formant_subframe-f.ensures.1 i;
         tilt_prev = last i;
         tilt_k1 = tilt-is (tilt-of v) i;
         agc_gain_q12 = moved i;
-      }) }
+      }),
+    )
 
 pub filtered_subframe_spec : {M : Type 1} → statement M
 filtered_subframe_spec =

@@ -65,7 +65,10 @@ returns c =
     let s = l.before in
     let t = to_z-of_z {w = w32} s.ranges.t in
     let g = to_z-of_z {w = w32} s.ranges.gain in
-    let last : l.loop-n.n ≡ 60 = omega arith in record { out_value = fills_end l.loop-n.invariant.0 (omega arith) ∙ (λ i. tabulate (λ n. gained_sample (gain_after (t i) (g i) (n + 1)) (entry s.args.z.now n)) 60); gain_value = l.loop-n.invariant.1 ∙ (λ i. gain_after (t i) (g i) (last i)) }
+    let last : l.loop-n.n ≡ 60 = omega arith in (
+      fills_end l.loop-n.invariant.0 (omega arith) ∙ (λ i. tabulate (λ n. gained_sample (gain_after (t i) (g i) (n + 1)) (entry s.args.z.now n)) 60),
+      l.loop-n.invariant.1 ∙ (λ i. gain_after (t i) (g i) (last i)),
+    )
 
 pub gained_subframe_spec : {M : Type 1} → statement M
 gained_subframe_spec =

@@ -26,13 +26,13 @@ module _ (s : tie.Start) where
   bits = of_z w64 (quot_z (to_z w64 (of_z w64 (to_z w64 (of_z w64 s.args.r1) *ℤ pos 32768))) (to_z w64 s.args.r0))
 
   product-within : Within (2 ^ 51) (s.args.r1 *ℤ pos 32768)
-  product-within = within-mul s.requires.within (within_num (pos 32768))
+  product-within = within-mul s.requires.0 (within_num (pos 32768))
 
   product_is : Is w64 (of_z w64 (to_z w64 (of_z w64 s.args.r1) *ℤ pos 32768)) (s.args.r1 *ℤ pos 32768)
   product_is = is_mul (is_arg s.ranges.r1) (is-lit w64 32768) (fits-within product-within tt)
 
   divisor-fits : SFits w64 (pos s.args.r0)
-  divisor-fits = record { sfits = omega (arith, s.requires.r0_bound) }
+  divisor-fits = record { sfits = omega (arith, s.requires.1) }
 
   quotient_fits : SFits w64 quotient
   quotient_fits = fits-within (within-quot (pos s.args.r0) product-within) tt

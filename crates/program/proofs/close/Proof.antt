@@ -6,8 +6,8 @@ use Rattle.program.proofs.close.Statement.{statement}
 use Rattle.program.proofs.close.Tie as tie
 
 -- those after the line that no newline ended
-tallies : (c : tie.After-finish-f) → c.finish-f.result.stream-1.tallies-1 ≡ (finished c.before.args.given).stream-1.tallies-1
-tallies c = ap (λ (f : Progress). f.stream-1.tallies-1) c.finish-f.ensures
+tallies : (c : tie.After-finish-f) → c.finish-f.result.stream.tallies ≡ (finished c.before.args.given).stream.tallies
+tallies c = ap (λ (f : Progress). f.stream.tallies) c.finish-f.ensures
 
 finish-requires : tie.Need-finish-f-requires
 finish-requires c κs = tt

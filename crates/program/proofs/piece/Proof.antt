@@ -38,11 +38,11 @@ slice-aggregate-write : tie.Need-slice_bounds-write-end invariant-loop decreases
 slice-aggregate-write c = search rules
 
 -- the call was for what is left of the piece
-progress : (c : tie.After-feed-f invariant-loop decreases-loop) → let l = c.before.before.before in c.feed-f.result ≡ progress_of l.loop-at.stream-1 (drop l.loop-at.at l.before.before.args.input.now)
+progress : (c : tie.After-feed-f invariant-loop decreases-loop) → let l = c.before.before.before in c.feed-f.result ≡ progress_of l.loop-at.stream (drop l.loop-at.at l.before.before.args.input.now)
 progress c =
     let l = c.before.before.before in
     let xs = l.before.before.args.input.now in
-    c.feed-f.ensures ∙ ap (progress_of l.loop-at.stream-1) (take_all (length xs - l.loop-at.at) (drop l.loop-at.at xs) (omega (arith, length-drop l.loop-at.at xs)))
+    c.feed-f.ensures ∙ ap (progress_of l.loop-at.stream) (take_all (length xs - l.loop-at.at) (drop l.loop-at.at xs) (omega (arith, length-drop l.loop-at.at xs)))
 
 write-requires : tie.Need-write-requires invariant-loop decreases-loop
 write-requires c κs = tt
@@ -51,7 +51,7 @@ returns : tie.Need-returns-then-not-write invariant-loop decreases-loop
 returns c =
     let f = c.before.before.before.before.before.before in
     let l = f.before.before.before in
-    record { stream_value = λ e. clash {b = true} refl (sym e); by_index = reached-more l.before.before.args.given l.loop-at.stream-1 f.feed-f.result.stream-1 _ l.loop-at.invariant.2 (progress_carried l.loop-at.stream-1 (drop l.loop-at.at l.before.before.args.input.now) f.feed-f.result (progress f)) }
+    (λ e. clash {b = true} refl (sym e), reached-more l.before.before.args.given l.loop-at.stream f.feed-f.result.stream _ l.loop-at.invariant.2 (progress_carried l.loop-at.stream (drop l.loop-at.at l.before.before.args.input.now) f.feed-f.result (progress f)))
 
 add_at : tie.Need-overflow_add-at invariant-loop decreases-loop
 add_at c =
@@ -59,7 +59,7 @@ add_at c =
     let l = f.before.before.before in
     let xs = l.before.before.args.input.now in
     let rest = drop l.loop-at.at xs in
-    let u = progress_used l.loop-at.stream-1 rest f.feed-f.result (progress f) in
+    let u = progress_used l.loop-at.stream rest f.feed-f.result (progress f) in
     search (rules, u, length-drop l.loop-at.at xs)
 
 loop-less : tie.Need-loop-at-smaller invariant-loop decreases-loop
@@ -68,7 +68,7 @@ loop-less c =
     let l = f.before.before.before in
     let xs = l.before.before.args.input.now in
     let rest = drop l.loop-at.at xs in
-    let u = progress_used l.loop-at.stream-1 rest f.feed-f.result (progress f) in
+    let u = progress_used l.loop-at.stream rest f.feed-f.result (progress f) in
     omega (arith, u.0, u.1, length-drop l.loop-at.at xs)
 
 loop-again : tie.Need-loop-at-preserved invariant-loop decreases-loop
@@ -77,17 +77,17 @@ loop-again c =
     let l = f.before.before.before in
     let xs = l.before.before.args.input.now in
     let rest = drop l.loop-at.at xs in
-    let u = progress_used l.loop-at.stream-1 rest f.feed-f.result (progress f) in (
+    let u = progress_used l.loop-at.stream rest f.feed-f.result (progress f) in (
       omega (arith, u.0, length-drop l.loop-at.at xs),
-      l.loop-at.invariant.1 ∙ progress_step l.loop-at.stream-1 rest f.feed-f.result (progress f) ∙ ap (stream_after f.feed-f.result.stream-1) (drop-drop f.feed-f.result.used l.loop-at.at xs),
-      reached-more l.before.before.args.given l.loop-at.stream-1 f.feed-f.result.stream-1 _ l.loop-at.invariant.2 (progress_carried l.loop-at.stream-1 rest f.feed-f.result (progress f)),
+      l.loop-at.invariant.1 ∙ progress_step l.loop-at.stream rest f.feed-f.result (progress f) ∙ ap (stream_after f.feed-f.result.stream) (drop-drop f.feed-f.result.used l.loop-at.at xs),
+      reached-more l.before.before.args.given l.loop-at.stream f.feed-f.result.stream _ l.loop-at.invariant.2 (progress_carried l.loop-at.stream rest f.feed-f.result (progress f)),
     )
 
 returns-2 : tie.Need-returns invariant-loop decreases-loop
 returns-2 c =
     let l = c.before in
     let xs = l.before.before.args.input.now in
-    record { stream_value = λ e. sym (l.loop-at.invariant.1 ∙ ap (stream_after l.loop-at.stream-1) (drop_of_length-le xs {i = l.loop-at.at} (omega arith)) ∙ nothing-carried l.loop-at.stream-1 [] (omega arith)); by_index = l.loop-at.invariant.2 }
+    (λ e. sym (l.loop-at.invariant.1 ∙ ap (stream_after l.loop-at.stream) (drop_of_length-le xs {i = l.loop-at.at} (omega arith)) ∙ nothing-carried l.loop-at.stream [] (omega arith)), l.loop-at.invariant.2)
 
 pub piece_spec : {M : Type 1} → statement M
 piece_spec =

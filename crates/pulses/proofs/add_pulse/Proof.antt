@@ -30,13 +30,13 @@ module _ (c : tie.After-out-1 invariant-loop decreases-loop) where
   l = c.before.before
 
   abbrev x : ℤ
-  x = entry l.loop-j.out-1 l.loop-j.j
+  x = entry l.loop-j.out l.loop-j.j
 
   still : x ≡ entry l.before.args.v l.loop-j.j
-  still = repeating_later l.loop-j.inv l.loop-j.j (omega arith) c.before.loop-j-test.true
+  still = repeating_later l.loop-j.invariant l.loop-j.j (omega arith) c.before.loop-j-test.true
 
   sum_fits : SFits w32 (x +ℤ l.before.args.amp)
-  sum_fits = fits-within (within-add (subst (Within (5 * unvoiced_gain_max)) (sym still) (l.before.requires.all_within.at l.loop-j.j)) l.before.requires.within) tt
+  sum_fits = fits-within (within-add (subst (Within (5 * unvoiced_gain_max)) (sym still) (l.before.requires.1.0.at l.loop-j.j)) l.before.requires.1.1) tt
 
 mul-out : tie.Need-offset_bounds-out-j invariant-loop decreases-loop
 mul-out c = omega arith
@@ -64,7 +64,7 @@ loop-again c =
     let fits = (l c).before.ranges.amp in
     let same = sym (to_z-of_z {w = w32} fits) in
     let e = (is-add (is-mag (x c) c.out-1.given) (is_arg fits) (sum_fits c)).is ∙ (λ i. still c i +ℤ same i) in
-    repeating_next (l c).loop-j.invariant c.before.loop-j-test.true (l c).before.requires.step_nonzero.0 e
+    repeating_next (l c).loop-j.invariant c.before.loop-j-test.true (l c).before.requires.0.0 e
 
 returns : tie.Need-returns invariant-loop decreases-loop
 returns c =

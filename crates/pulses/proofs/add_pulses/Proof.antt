@@ -37,12 +37,12 @@ pulse-count-requires c κs = tt
 loop-holds : tie.Need-loop-slot-init invariant-loop decreases-loop
 loop-holds c =
     let s = c.before.before.before.before in
-    placing_start s.requires.code_bound s.requires.found_value c.pulse_count-left.ensures
+    placing_start s.requires.0 s.requires.1 c.pulse_count-left.ensures
 
 -- the grid bit as the code has it
 grid-is : (c : tie.Joined-d invariant-loop decreases-loop) → c.if-d.grid ≡ cond c.before.before.before.args.d.grid 1 0
 grid-is c =
-    ⊎_elim (λ w. w.1 ∙ sym (ap (λ (b : Bool). cond b 1 0) w.0.taken)) (λ w. w.1 ∙ sym (ap (λ (b : Bool). cond b 1 0) w.0.left)) c.if-d.branch
+    ⊎_elim (λ w. w.grid-is ∙ sym (ap (λ (b : Bool). cond b 1 0) w.if-d.true)) (λ w. w.grid-is ∙ sym (ap (λ (b : Bool). cond b 1 0) w.if-d.false)) c.if-d.branch-raw
 
 -- the step is none that adding it to a sample's number overflows
 step_is : (c : tie.After-pulse_step-step invariant-loop decreases-loop) → (0 < c.pulse_step-step.result) × (c.pulse_step-step.result < 2 ^ 32)
@@ -74,13 +74,13 @@ module _ (c : tie.Then-rest-eq1 invariant-loop decreases-loop) where
   l = c.before.before
 
   counted : (1 ≤ l.loop-slot.left) × (l.loop-slot.left ≤ 6)
-  counted = placing_left l.before.before.before.before.before.requires.code_bound l.loop-slot.inv c.if-rest-eq1.true
+  counted = placing_left l.before.before.before.before.before.requires.0 l.loop-slot.invariant c.if-rest-eq1.true
 
 sub-left : tie.Need-overflow_sub-left invariant-loop decreases-loop
 sub-left c = (counted c).0
 
 with-sign-requires : tie.Need-with_sign-amp-requires invariant-loop decreases-loop
-with-sign-requires c κs = record { within = size-within (l c).before.before.before.before; b_bound = omega (arith, (counted c).1) }
+with-sign-requires c κs = (size-within (l c).before.before.before.before, omega (arith, (counted c).1))
 
 mul-add-pulse : tie.Need-overflow_mul-slot invariant-loop decreases-loop
 mul-add-pulse c = omega arith
@@ -95,7 +95,13 @@ add-pulse-requires c κs =
     let t = c.before.before in
     let l = t.before.before in
     let g = l.before.before.before.before in
-    let amp = c.before.with_sign-amp in record { step_nonzero = step_is l.before.before.before; all_within = placing_within g.before.requires.code_bound l.loop-slot.invariant t.if-rest-eq1.true; within = subst (Within unvoiced_gain_max) (sym (back w32 amp.type_inv amp.ensures)) (signed-most (d g).signs (l.loop-slot.left - 1) (size-within g)) }
+    let amp = c.before.with_sign-amp in (
+      step_is l.before.before.before,
+      (
+        placing_within g.before.requires.0 l.loop-slot.invariant t.if-rest-eq1.true,
+        subst (Within unvoiced_gain_max) (sym (back w32 amp.type_inv amp.ensures)) (signed-most (d g).signs (l.loop-slot.left - 1) (size-within g)),
+      ),
+    )
 
 add-slot : tie.Need-overflow_add-slot-in-loop-slot invariant-loop decreases-loop
 add-slot c = omega arith
@@ -109,17 +115,17 @@ loop-again c =
     let j = l.before.before in
     let p = j.before in
     let g = p.before in
-    let h = g.before.requires.code_bound in
+    let h = g.before.requires.0 in
     ⊎_elim
-    (λ w. rw (w.4, w.5)
-    (placing_hit h l.loop-slot.invariant w.0.taken p.pulse_step-step.ensures (grid-is j) (back w32 w.1.ok w.1.ensures ∙ signed_is g (l.loop-slot.left - 1)) w.3.ensures))
-    (λ w. rw (w.1, w.2) (placing_miss h l.loop-slot.invariant w.0.left))
-    c.if-rest-eq1.branch
+    (λ w. rw (w.v-is, w.left-is)
+    (placing_hit h l.loop-slot.invariant w.if-rest-eq1.true p.pulse_step-step.ensures (grid-is j) (back w32 w.with_sign-amp.type_inv w.with_sign-amp.ensures ∙ signed_is g (l.loop-slot.left - 1)) w.add_pulse-w.ensures))
+    (λ w. rw (w.v-is, w.left-is) (placing_miss h l.loop-slot.invariant w.if-rest-eq1.false))
+    c.if-rest-eq1.branch-raw
 
 returns : tie.Need-returns invariant-loop decreases-loop
 returns c =
     let b = c.before in
-    placing_end b.before.before.before.before.before.requires.code_bound b.loop-slot.invariant c.loop-slot-test.false
+    placing_end b.before.before.before.before.before.requires.0 b.loop-slot.invariant c.loop-slot-test.false
 
 pub add_pulses_spec : {M : Type 1} → statement M
 add_pulses_spec =

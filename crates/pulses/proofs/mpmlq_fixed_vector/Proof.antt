@@ -16,13 +16,13 @@ enum_told c = search rules
 
 returns : tie.Need-returns-in_default
 returns c =
-    let d = c.before.before.before.args.d in
-    vector-none d (read_none d.count d.code (sym c.before.before.fcbk_unpk_positions.ensures ∙ c.enum_told-1.given.1))
+    let d = c.before.before.args.d in
+    vector-none d (read_none d.count d.code (sym c.before.fcbk_unpk_positions.ensures ∙ c.in_default.is))
 
 add-pulses-requires : tie.Need-add_pulses-requires
 add-pulses-requires c κs =
-    let d = c.before.before.before.before.args.d in
-    read_of d.count d.code c.before.found-1.given.0.0 (sym c.before.before.before.fcbk_unpk_positions.ensures ∙ c.before.found-1.given.1)
+    let d = c.before.before.args.d in
+    read_of d.count d.code c.in-Of.found (sym c.before.fcbk_unpk_positions.ensures ∙ c.in-Of.is)
 
 returns-2 : tie.Need-returns
 returns-2 c = c.add_pulses.ensures

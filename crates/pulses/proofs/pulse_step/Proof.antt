@@ -2,22 +2,21 @@ use mathlib.Core.Path.{◌≡◌, refl, sym}
 use mathlib.Core.Bool.{true, false}
 use Prim.Native.Nat.{max}
 use native.Mathlib.Omega.{arith}
-use borrow.Author.Tests.{not-true, not-false}
 use Rattle.pulses.proofs.pulse_step.Statement.{statement}
 use Rattle.pulses.proofs.pulse_step.Tie as tie
 
 returns : tie.Need-returns-then-not-train
-returns c = let t : c.before.args.train ≡ false = not-true _ c.if-not-train.true in rw t refl
+returns c = let t : c.before.args.train ≡ false = c.if-not-train.true in rw t refl
 
 returns-2 : tie.Need-returns-then-lag-eq0
 returns-2 c =
-    let t : c.before.before.args.train ≡ true = not-false _ c.before.if-not-train.false in
+    let t : c.before.before.args.train ≡ true = c.before.if-not-train.false in
     let e : max c.before.before.args.lag 1 ≡ 1 = omega (arith, c.if-lag-eq0.true) in
     rw t (sym e)
 
 returns-3 : tie.Need-returns-else-lag-eq0
 returns-3 c =
-    let t : c.before.before.args.train ≡ true = not-false _ c.before.if-not-train.false in
+    let t : c.before.before.args.train ≡ true = c.before.if-not-train.false in
     let e : max c.before.before.args.lag 1 ≡ c.before.before.args.lag = omega (arith, c.if-lag-eq0.false) in
     rw t (sym e)
 

@@ -16,10 +16,10 @@ cast-if1 : tie.Need-overflow_cast-b
 cast-if1 c = omega arith
 
 shr-if1 : tie.Need-overflow_shr-signs
-shr-if1 c = c.requires.b_bound
+shr-if1 c = c.requires.1
 
 negative_fits : (s : tie.Start) → SFits w32 (pos 0 -ℤ s.args.size)
-negative_fits s = fits-within (within-sub (within_num (pos 0)) s.requires.within) tt
+negative_fits s = fits-within (within-sub (within_num (pos 0)) s.requires.0) tt
 
 sub-result : tie.Need-overflow_sub-result
 sub-result c = let s = c.before in need_sub (is-lit w32 0) (is_arg s.ranges.size) (negative_fits s)

@@ -97,7 +97,7 @@ returns c =
     let x = c.wrapping_sub_u64.result in
     let is : x ≡ i.loop-q.r * 2 ^ 32 + s.args.l - i.loop-q.q * (s.args.v % 2 ^ 32) =
     difference (2 ^ 64) (i.loop-q.r * 2 ^ 32 + s.args.l) (i.loop-q.q * (s.args.v % 2 ^ 32)) x (search rules) (omega (arith, h.half_product-p.ensures, h.half_product-p.type_inv)) (rest e) (omega (arith, (divided e).1, s.ranges.v))
-    (ap (λ (y : ℕ). (x + y) % 2 ^ 64) (sym h.half_product-p.ensures) ∙ c.wrapping_sub_u64.ensures.value ∙ shifted-digit i.loop-q.r s.args.l s.ranges.l.fits) in
+    (ap (λ (y : ℕ). (x + y) % 2 ^ 64) (sym h.half_product-p.ensures) ∙ c.wrapping_sub_u64.ensures ∙ shifted-digit i.loop-q.r s.args.l s.ranges.l.fits) in
     subst (λ (y : ℕ). (i.loop-q.q * s.args.v + y ≡ s.args.u * 2 ^ 32 + s.args.l) × (y < s.args.v)) (sym is) (divided e)
 
 pub digit_spec : {M : Type 1} → statement M

@@ -46,7 +46,7 @@ returns-4 c =
     let d = e.before.before.args.d in
     let v = d.lo in
     let is : v ≡ value d = omega (arith, e.if-d-ne0.false) in
-    ap (λ (x : ℕ). n.hi / v * 2 ^ 64 + x) c.by_word_lem.ensures ∙ pair_quotient (2 ^ 64) n.hi n.lo v (omega arith)
+    ap (λ (x : ℕ). n.hi / v * 2 ^ 64 + x) c.by_word.ensures ∙ pair_quotient (2 ^ 64) n.hi n.lo v (omega arith)
     ∙ ap (λ (x : ℕ). value n / x) is
 
 pub divide_spec : {M : Type 1} → statement M

@@ -15,7 +15,7 @@ lag-code-above-requires c κs = tt
 
 returns : tie.Need-returns-then-lag_code_above
 unfolding found_received
-returns c = record { answer = cond-here _ _ c.before.lag_code_above.ensures c.if-lag_code_above.true; kind = tt }
+returns c = (cond-here _ _ c.before.lag_code_above.ensures c.if-lag_code_above.true, tt)
 
 step-code-above-requires : tie.Need-step_code_above-requires
 step-code-above-requires c κs = tt
@@ -23,8 +23,11 @@ step-code-above-requires c κs = tt
 returns-2 : tie.Need-returns-then-step_code_above
 unfolding found_received
 returns-2 c =
-    let l = c.before.before in record { answer = cond_there _ l.before.lag_code_above.ensures l.if-lag_code_above.false
-          (cond-here _ _ c.before.step_code_above.ensures c.if-step_code_above.true); kind = tt }
+    let l = c.before.before in (
+      cond_there _ l.before.lag_code_above.ensures l.if-lag_code_above.false
+          (cond-here _ _ c.before.step_code_above.ensures c.if-step_code_above.true),
+      tt,
+    )
 
 any-gain-above-requires : tie.Need-any_gain_above-requires
 any-gain-above-requires c κs = tt
@@ -33,9 +36,12 @@ returns-3 : tie.Need-returns-then-any_gain_above
 unfolding found_received
 returns-3 c =
     let s = c.before.before in
-    let l = s.before.before in record { answer = cond_there _ l.before.lag_code_above.ensures l.if-lag_code_above.false
+    let l = s.before.before in (
+      cond_there _ l.before.lag_code_above.ensures l.if-lag_code_above.false
           (cond_there _ s.before.step_code_above.ensures s.if-step_code_above.false
-          (cond-here _ _ c.before.any_gain_above.ensures c.if-any_gain_above.true)); kind = tt }
+          (cond-here _ _ c.before.any_gain_above.ensures c.if-any_gain_above.true)),
+      tt,
+    )
 
 -- numbers 6 to 8 do not apply
 past-gain : (c : tie.Else-any_gain_above) {y : Found} → let a = c.before.before.before.before.before.before.before.args in
@@ -53,22 +59,28 @@ any-flags-wrong-requires : tie.Need-any_flags_wrong-requires
 any-flags-wrong-requires c κs = tt
 
 returns-4 : tie.Need-returns-then-any_flags_wrong
-returns-4 c = record { answer = past-gain c.before.before (cond-here _ _ c.before.any_flags_wrong.ensures c.if-any_flags_wrong.true); kind = tt }
+returns-4 c = (past-gain c.before.before (cond-here _ _ c.before.any_flags_wrong.ensures c.if-any_flags_wrong.true), tt)
 
 any-signs-wrong-requires : tie.Need-any_signs_wrong-requires
 any-signs-wrong-requires c κs = tt
 
 returns-5 : tie.Need-returns-then-any_signs_wrong
 returns-5 c =
-    let f = c.before.before in record { answer = past-gain f.before.before
+    let f = c.before.before in (
+      past-gain f.before.before
           (cond_there _ f.before.any_flags_wrong.ensures f.if-any_flags_wrong.false
-          (cond-here _ _ c.before.any_signs_wrong.ensures c.if-any_signs_wrong.true)); kind = tt }
+          (cond-here _ _ c.before.any_signs_wrong.ensures c.if-any_signs_wrong.true)),
+      tt,
+    )
 
 returns-6 : tie.Need-returns
 returns-6 c =
-    let f = c.before.before in record { answer = past-gain f.before.before
+    let f = c.before.before in (
+      past-gain f.before.before
           (cond_there _ f.before.any_flags_wrong.ensures f.if-any_flags_wrong.false
-          (cond_there _ c.before.any_signs_wrong.ensures c.if-any_signs_wrong.false refl)); kind = refl }
+          (cond_there _ c.before.any_signs_wrong.ensures c.if-any_signs_wrong.false refl)),
+      refl,
+    )
 
 pub received_found_spec : {M : Type 1} → statement M
 received_found_spec =

@@ -13,7 +13,7 @@ returns : tie.Need-returns
 returns c =
     let a = c.before.before.before.args in
     let f = c.received_found.ensures in
-    record { answer = f.answer ∙ ap (found_received a.rate a.form) c.before.fields.ensures; kind = f.kind }
+    (f.0 ∙ ap (found_received a.rate a.form) c.before.fields.ensures, f.1)
 
 pub record_found_spec : {M : Type 1} → statement M
 record_found_spec = tie.close (tie.spec fields-requires received-found-requires returns)

@@ -56,9 +56,9 @@ loop-again c =
     let t = short m p in (
       omega arith,
       rw (any_step t j, sym b.loop-j.invariant.1)
-          (⊎_elim (λ w. rw w.0.taken (w.1 ∙ w.0.taken))
-          (λ w. rw w.0.left (w.4 ∙ w.3.ensures ∙ (λ i. lt_z (read_back w16 (entry p (j + 1)) w.2.given i -ℤ read_back w16 (entry p j) w.1.given i) m)))
-          c.if-found.branch),
+          (⊎_elim (λ w. rw w.if-found.true (w.found-is ∙ w.if-found.true))
+          (λ w. rw w.if-found.false (w.found-is ∙ w.is_short-found.ensures ∙ (λ i. lt_z (read_back w16 (entry p (j + 1)) w.is_short-arg-else-found-1.given i -ℤ read_back w16 (entry p j) w.is_short-arg-1.given i) m)))
+          c.if-found.branch-raw),
     )
 
 last : (c : tie.After-loop-j invariant-loop decreases-loop) → c.before.loop-j.j ≡ 9

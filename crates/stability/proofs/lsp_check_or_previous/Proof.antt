@@ -37,13 +37,13 @@ module _ (c : tie.After-lsp_stability-s) where
       ∙ (λ i. record { lsps = lsps_used (answer i).outcome (answer i).lsps v; outcome = (answer i).outcome })
 
 returns : tie.Need-returns-in-Untouched
-returns c = chosen c.before.before Untouched c.enum_told-1.given.1
+returns c = chosen c.before Untouched c.in-Untouched.is
 
 returns-2 : tie.Need-returns-in-Moved
-returns-2 c = chosen c.before.before Moved c.enum_told-in-Moved-1.given.1
+returns-2 c = chosen c.before Moved c.in-Moved.is
 
 returns-3 : tie.Need-returns-in-Previous
-returns-3 c = chosen c.before.before Previous c.enum_told-in-Previous-1.given.1
+returns-3 c = chosen c.before Previous c.in-Previous.is
 
 pub lsp_check_or_previous_spec : {M : Type 1} → statement M
 lsp_check_or_previous_spec =

@@ -41,10 +41,10 @@ returns : tie.Need-returns-then-not-s invariant-loop decreases-loop
 returns c =
     let s = c.before.before.before.before in
     let l = s.before.before in
-    let still = sym s.one_pass-s.ensures.moved_value ∙ not-true _ c.before.if-not-s.true in
+    let still = sym s.one_pass-s.ensures.1 ∙ not-true _ c.before.if-not-s.true in
     answered l
-    ((λ i. record { lsps = s.one_pass-s.ensures.lsps_value i; outcome = c.outcome_after.ensures i })
-    ∙ still_end (min l) l.before.args.p l.loop-n.n l.loop-n.q-1 l.loop-n.invariant (omega arith) still)
+    ((λ i. record { lsps = s.one_pass-s.ensures.0 i; outcome = c.outcome_after.ensures i })
+    ∙ still_end (min l) l.before.args.p l.loop-n.n l.loop-n.q l.loop-n.invariant (omega arith) still)
 
 add-n : tie.Need-overflow_add-n invariant-loop decreases-loop
 add-n c = omega arith
@@ -56,9 +56,9 @@ loop-again : tie.Need-loop-n-preserved invariant-loop decreases-loop
 loop-again c =
     let s = c.before.before.before in
     let l = s.before.before in
-    let moved = sym s.one_pass-s.ensures.moved_value ∙ not-false _ c.if-not-s.false in
-    subst (Turn (min l) l.before.args.p (l.loop-n.n + 1)) (sym s.one_pass-s.ensures.lsps_value)
-    (turn-next (min l) l.before.args.p l.loop-n.n l.loop-n.q-1 l.loop-n.invariant (omega arith) moved)
+    let moved = sym s.one_pass-s.ensures.1 ∙ not-false _ c.if-not-s.false in
+    subst (Turn (min l) l.before.args.p (l.loop-n.n + 1)) (sym s.one_pass-s.ensures.0)
+    (turn-next (min l) l.before.args.p l.loop-n.n l.loop-n.q l.loop-n.invariant (omega arith) moved)
 
 any-short-requires : tie.Need-any_short-requires invariant-loop decreases-loop
 any-short-requires c κs = tt
@@ -66,13 +66,13 @@ any-short-requires c κs = tt
 returns-2 : tie.Need-returns-then-any_short invariant-loop decreases-loop
 returns-2 c =
     let l = c.before.before.before in
-    answered l (last_end (min l) l.before.args.p l.loop-n.n l.loop-n.q-1 l.loop-n.invariant (omega arith)
+    answered l (last_end (min l) l.before.args.p l.loop-n.n l.loop-n.q l.loop-n.invariant (omega arith)
     (sym c.before.any_short.ensures ∙ c.if-any_short.true))
 
 returns-3 : tie.Need-returns invariant-loop decreases-loop
 returns-3 c =
     let l = c.before.before.before in
-    answered l (last_end (min l) l.before.args.p l.loop-n.n l.loop-n.q-1 l.loop-n.invariant (omega arith)
+    answered l (last_end (min l) l.before.args.p l.loop-n.n l.loop-n.q l.loop-n.invariant (omega arith)
     (sym c.before.any_short.ensures ∙ c.if-any_short.false))
 
 pub lsp_stability_spec : {M : Type 1} → statement M

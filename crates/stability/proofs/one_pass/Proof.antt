@@ -42,8 +42,8 @@ loop-again c =
     let e = b.loop-j.invariant.1.0 in (
       omega arith,
       (
-        rw (pass_step m p j, sym e) c.pair-t.ensures.lsps_value,
-        rw (any_step (λ k. short m (pass_to m p k) k) j, sym e, sym b.loop-j.invariant.1.1) c.pair-t.ensures.moved_value,
+        rw (pass_step m p j, sym e) c.pair-t.ensures.0,
+        rw (any_step (λ k. short m (pass_to m p k) k) j, sym e, sym b.loop-j.invariant.1.1) c.pair-t.ensures.1,
       ),
     )
 
@@ -54,7 +54,10 @@ returns : tie.Need-returns invariant-loop decreases-loop
 returns c =
     let b = c.before in
     let p = b.before.args.p in
-    let d = to_z-of_z b.before.ranges.minimum in record { lsps_value = b.loop-j.invariant.1.0 ∙ (λ i. pass_to (d i) p (last c i)); moved_value = b.loop-j.invariant.1.1 ∙ (λ i. any_to (λ k. short (d i) (pass_to (d i) p k) k) (last c i)) }
+    let d = to_z-of_z b.before.ranges.minimum in (
+      b.loop-j.invariant.1.0 ∙ (λ i. pass_to (d i) p (last c i)),
+      b.loop-j.invariant.1.1 ∙ (λ i. any_to (λ k. short (d i) (pass_to (d i) p k) k) (last c i)),
+    )
 
 pub one_pass_spec : {M : Type 1} → statement M
 one_pass_spec =

@@ -47,7 +47,7 @@ returns : tie.Need-returns-then-not-is_between invariant-loop decreases-loop
 returns c =
     let l = c.before.before.before.before in
     let xs = l.before.args.xs.now in
-    all_fails (is_word xs) (length xs) l.loop-i.i (omega arith) (sym (test c.before) ∙ not-true c.if-not-is_between.true)
+    all_fails (is_word xs) (length xs) l.loop-i.i (omega arith) (sym (test c.before) ∙ c.if-not-is_between.true)
 
 add-i : tie.Need-overflow_add-i invariant-loop decreases-loop
 add-i c = search rules
@@ -60,7 +60,7 @@ loop-again c =
     let l = c.before.before.before.before in
     let t = is_word l.before.args.xs.now in
     let i = l.loop-i.i in
-    (omega arith, all_step t i ∙ (λ k. l.loop-i.invariant.1 k && (sym (test c.before) ∙ not-false c.if-not-is_between.false) k))
+    (omega arith, all_step t i ∙ (λ k. l.loop-i.invariant.1 k && (sym (test c.before) ∙ c.if-not-is_between.false) k))
 
 returns-2 : tie.Need-returns invariant-loop decreases-loop
 returns-2 c =

@@ -36,15 +36,15 @@ memory c =
     let s = state c.before.before.before in
     c.are_words-then-are_words.ensures ∙ ap (are_words s.syn_mem) (sym (slice-aggregate-are-words-2 c.before))
 
-lists : (c : tie.Joined-are_words) → c.if-are_words.if-are_words-2 ≡ (is_history (state c.before) && is_memory (state c.before))
+lists : (c : tie.Joined-are_words) → c.if-are_words.value ≡ (is_history (state c.before) && is_memory (state c.before))
 lists c =
     let s = state c.before in
     let t = sym (history c.before) in
-    ⊎_elim {C = c.if-are_words.if-are_words-2 ≡ (is_history s && is_memory s)}
+    ⊎_elim {C = c.if-are_words.value ≡ (is_history s && is_memory s)}
     (λ w.
-    let m : tie.After-memory-then-are_words-1 = record { before = record { before = c.before; if1 = w.0 }; memory2 = w.1 } in
-    w.3 ∙ memory record { before = m; are-words2 = w.2 } ∙ and_there {a = is_history s} {b = is_memory s} refl (t ∙ w.0.taken) refl)
-    (λ w. w.1 ∙ w.0.left ∙ sym (t ∙ w.0.left) ∙ and-here {a = is_history s} (is_memory s) refl (t ∙ w.0.left)) c.if-are_words.branch
+    let m : tie.After-memory-then-are_words-1 = record { before = record { before = c.before; if-are_words = w.if-are_words }; memory-then-are_words-1 = w.memory-then-are_words-1 } in
+    w.value-is ∙ memory record { before = m; are_words-then-are_words = w.are_words-then-are_words } ∙ and_there {a = is_history s} {b = is_memory s} refl (t ∙ w.if-are_words.true) refl)
+    (λ w. w.value-is ∙ w.if-are_words.false ∙ sym (t ∙ w.if-are_words.false) ∙ and-here {a = is_history s} (is_memory s) refl (t ∙ w.if-are_words.false)) c.if-are_words.branch-raw
 
 regrouped : (s : State) → ((is_history s && is_memory s) && are_numbers s) ≡ in_bounds s
 unfolding in_bounds

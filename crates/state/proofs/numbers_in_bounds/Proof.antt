@@ -54,35 +54,35 @@ as_read b e = ap (between b.least b.most) e
 -- each in turn, read from the field's bits where the tests before it held
 gain : (c : tie.After-is_between) → c.is_between.result ≡ test (state c) 0
 gain c =
-    let read = read_back w32 (state c).pf-1.agc_gain_q12 c.before.struct_told-1.given.1.1.1.1.0.1 in
+    let read = read_back w32 (state c).pf.agc_gain_q12 c.before.struct_told-1.given.1.1.1.1.0.1 in
     c.is_between.ensures ∙ as_read (number (state c) 0) read
 
-lag : (c : tie.Joined-is_between) → c.if-is_between.if-is_between-2 ≡ to1 (state c.before)
+lag : (c : tie.Joined-is_between) → c.if-is_between.value ≡ to1 (state c.before)
 lag c =
     let s = state c.before in
     let read = read_back w32 s.last_lag in
     let t = sym (gain c.before) in
     ⊎_elim
-    (λ w. w.3 ∙ w.2.ensures ∙ as_read (number s 1) (read w.1.given.1.1.1.1.0.1) ∙ and_there {a = test s 0} {b = test s 1} refl (t ∙ w.0.taken) refl)
-    (λ w. w.1 ∙ w.0.left ∙ sym (t ∙ w.0.left) ∙ and-here {a = test s 0} (test s 1) refl (t ∙ w.0.left)) c.if-is_between.branch
+    (λ w. w.value-is ∙ w.is_between-then-is_between.ensures ∙ as_read (number s 1) (read w.struct_told-then-is_between-1.given.1.1.1.1.0.1) ∙ and_there {a = test s 0} {b = test s 1} refl (t ∙ w.if-is_between.true) refl)
+    (λ w. w.value-is ∙ w.if-is_between.false ∙ sym (t ∙ w.if-is_between.false) ∙ and-here {a = test s 0} (test s 1) refl (t ∙ w.if-is_between.false)) c.if-is_between.branch-raw
 
-lag2 : (c : tie.Joined-is_between-2) → c.if-is_between-2.if-is_between-3 ≡ to2 (state c.before.before)
+lag2 : (c : tie.Joined-is_between-2) → c.if-is_between-2.value ≡ to2 (state c.before.before)
 lag2 c =
     let s = state c.before.before in
     let read = read_back w32 s.last_lag2 in
     let t = sym (lag c.before) in
     ⊎_elim
-    (λ w. w.3 ∙ w.2.ensures ∙ as_read (number s 2) (read w.1.given.1.1.1.1.1.0.1) ∙ and_there {a = to1 s} {b = test s 2} refl (t ∙ w.0.taken) refl)
-    (λ w. w.1 ∙ w.0.left ∙ sym (t ∙ w.0.left) ∙ and-here {a = to1 s} (test s 2) refl (t ∙ w.0.left)) c.if-is_between-2.branch
+    (λ w. w.value-is ∙ w.is_between-then-is_between-2.ensures ∙ as_read (number s 2) (read w.struct_told-then-is_between-2-1.given.1.1.1.1.1.0.1) ∙ and_there {a = to1 s} {b = test s 2} refl (t ∙ w.if-is_between-2.true) refl)
+    (λ w. w.value-is ∙ w.if-is_between-2.false ∙ sym (t ∙ w.if-is_between-2.false) ∙ and-here {a = to1 s} (test s 2) refl (t ∙ w.if-is_between-2.false)) c.if-is_between-2.branch-raw
 
-taps : (c : tie.Joined-is_between-3) → c.if-is_between-3.if-is_between-4 ≡ to3 (state c.before.before.before)
+taps : (c : tie.Joined-is_between-3) → c.if-is_between-3.value ≡ to3 (state c.before.before.before)
 taps c =
     let s = state c.before.before.before in
     let read = read_back w32 s.last_taps_sum_q15 in
     let t = sym (lag2 c.before) in
     ⊎_elim
-    (λ w. w.3 ∙ w.2.ensures ∙ as_read (number s 3) (read w.1.given.1.1.1.1.1.1.0.1) ∙ and_there {a = to2 s} {b = test s 3} refl (t ∙ w.0.taken) refl)
-    (λ w. w.1 ∙ w.0.left ∙ sym (t ∙ w.0.left) ∙ and-here {a = to2 s} (test s 3) refl (t ∙ w.0.left)) c.if-is_between-3.branch
+    (λ w. w.value-is ∙ w.is_between-then-is_between-3.ensures ∙ as_read (number s 3) (read w.struct_told-then-is_between-3-1.given.1.1.1.1.1.1.0.1) ∙ and_there {a = to2 s} {b = test s 3} refl (t ∙ w.if-is_between-3.true) refl)
+    (λ w. w.value-is ∙ w.if-is_between-3.false ∙ sym (t ∙ w.if-is_between-3.false) ∙ and-here {a = to2 s} (test s 3) refl (t ∙ w.if-is_between-3.false)) c.if-is_between-3.branch-raw
 
 -- grouped from the right and ended, as the list has them
 ended : (b : Bool) → b ≡ (b && true)

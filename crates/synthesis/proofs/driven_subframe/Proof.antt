@@ -41,7 +41,7 @@ sample-requires : tie.Need-sample-y-requires invariant-loop decreases-loop
 sample-requires c κs =
     let l = c.before.before in
     let x = l.before.before.requires.at l.loop-n.n in
-    record { within = within-is (is-mag (entry l.before.before.args.x.now l.loop-n.n) c.sample-arg-1.given) x; all_fit = l.loop-n.invariant.1.fit }
+    (within-is {w = w64} (is-mag (entry l.before.before.args.x.now l.loop-n.n) c.sample-arg-1.given) x, l.loop-n.invariant.1.fit)
 
 mul-out : tie.Need-offset_bounds-out-n invariant-loop decreases-loop
 mul-out c = omega arith
@@ -84,7 +84,7 @@ returns c =
     let a = l.before.before.args in
     let v : ℕ → ℤ = entry a.x.now in
     let out = fills_end l.loop-n.invariant.0 (omega arith) ∙ ap (λ (m : List ℤ). driven_subframe a.a v m) l.before.widened-m.ensures in
-    record { out_value = out; mem_value = c.last_ten-after.ensures ∙ ap last_ten out ∙ driven-last a.a v a.mem }
+    (out, c.last_ten-after.ensures ∙ ap last_ten out ∙ driven-last a.a v a.mem)
 
 pub driven_subframe_spec : {M : Type 1} → statement M
 driven_subframe_spec =

@@ -8,8 +8,8 @@ use Rattle.synthesis.proofs.mac.Tie as tie
 
 fits : (s : tie.Start) → let a = s.args in SFits w64 (a.a *ℤ a.y) × SFits w64 (a.acc +ℤ a.a *ℤ a.y)
 fits s =
-    let p = within-mul (within-fits s.ranges.a) (within-fits s.requires.sfits) in
-    (fits-within p tt, fits-within (within-add s.requires.within p) tt)
+    let p = within-mul (within-fits s.ranges.a) (within-fits s.requires.1) in
+    (fits-within p tt, fits-within (within-add s.requires.0 p) tt)
 
 cast-result : tie.Need-overflow_cast-result
 cast-result c = search signed

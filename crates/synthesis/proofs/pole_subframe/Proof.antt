@@ -8,13 +8,13 @@ inputs-less-requires : tie.Need-inputs_less-v-requires
 inputs-less-requires c κs = tt
 
 driven-subframe-requires : tie.Need-driven_subframe-requires
-driven-subframe-requires c κs = c.before.inputs_less-v.ensures.all_within
+driven-subframe-requires c κs = c.before.inputs_less-v.ensures.1
 
 returns : tie.Need-returns
 returns c =
     let a = c.before.before.before.args in
-    let v = read_sixty (difference a.y.now a.less.now) c.before.before.inputs_less-v.ensures.value in
-    let r = c.driven_subframe.ensures in record { out_value = r.out_value ∙ same_subframe a.a a.mem v; mem_value = r.mem_value ∙ same_memory a.a a.mem v }
+    let v = read_sixty (difference a.y.now a.less.now) c.before.before.inputs_less-v.ensures.0 in
+    let r = c.driven_subframe.ensures in (r.0 ∙ same_subframe a.a a.mem v, r.1 ∙ same_memory a.a a.mem v)
 
 pub pole_subframe_spec : {M : Type 1} → statement M
 pole_subframe_spec = tie.close (tie.spec inputs-less-requires driven-subframe-requires returns)

@@ -20,7 +20,7 @@ abbrev decreases-loop : tie.decreases-loop-j
 decreases-loop a mem acc₀ j₀ acc j = 10 - j
 
 loop-holds : tie.Need-loop-j-init invariant-loop decreases-loop
-loop-holds c = let a = c.args in (omega arith, sums-start (λ i. entry a.t1 i *ℤ entry a.t2 i) (2 ^ 30) 0 refl)
+loop-holds c = let a = c.args in (omega arith, sums-start (λ i. entry a.a i *ℤ entry a.mem i) (2 ^ 30) 0 refl)
 
 mul-mac : tie.Need-offset_bounds-a-j invariant-loop decreases-loop
 mul-mac c = omega arith
@@ -38,8 +38,8 @@ mac-requires : tie.Need-mac-acc-requires invariant-loop decreases-loop
 mac-requires c κs =
     let l = c.before.before.before in
     let f = l.before.requires.at l.loop-j.j in
-    let sum : Within (9 * 2 ^ 30) (to_z w64 l.loop-j.acc) = rw l.loop-j.invariant.1.is (within-le l.loop-j.invariant.1.small (omega arith)) in
-    record { within = sum; sfits = need_cast (is_arg (widen f tt)) f }
+    let sum : Within (9 * 2 ^ 30) (to_z w64 l.loop-j.acc-bits) = rw l.loop-j.invariant.1.is (within-le l.loop-j.invariant.1.small (omega arith)) in
+    (sum, need_cast {w = w64} (is_arg (widen f tt)) f)
 
 add-j : tie.Need-overflow_add-j invariant-loop decreases-loop
 add-j c = omega arith
@@ -58,7 +58,7 @@ loop-again c =
     let bound = within-mul (within-mag w16 (entry a j) x) (within-fits y) in (
       omega arith,
       sums_next l.loop-j.invariant.1 (entry a j *ℤ entry m j) c.mac-acc.result bound refl
-          (c.mac-acc.ensures ∙ (λ i. to_z w64 l.loop-j.acc +ℤ read_back w16 (entry a j) x i *ℤ to_z-of_z {w = w64} (widen y tt) i)) c.mac-acc.type_inv,
+          (c.mac-acc.ensures ∙ (λ i. to_z w64 l.loop-j.acc-bits +ℤ read_back w16 (entry a j) x i *ℤ to_z-of_z {w = w64} (widen y tt) i)) c.mac-acc.type_inv,
     )
 
 returns : tie.Need-returns invariant-loop decreases-loop

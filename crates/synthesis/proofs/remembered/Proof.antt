@@ -55,7 +55,7 @@ returns c =
     let s = c.before.before.before.before.before.before.before.before.before in
     let l = s.args.mem in
     let f : AllFit w64 l = all_fit 10 s.well_formed.0 in
-    let newest = (is-cast (is_arg s.ranges.y) (widen s.ranges.y tt)).is in
+    let newest = (is-cast {w' = w64} (is_arg s.ranges.y) (widen s.ranges.y tt)).is in
     ten (λ z. to_z w64 (of_z w64 z)) l newest (λ i. to_z-of_z (f.at i)) (omega (arith, s.well_formed.0.1.0.1))
 
 pub remembered_spec : {M : Type 1} → statement M

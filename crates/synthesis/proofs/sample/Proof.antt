@@ -13,13 +13,13 @@ use Rattle.synthesis.proofs.sample.Statement.{statement}
 use Rattle.synthesis.proofs.sample.Tie as tie
 
 sum-within : (s : tie.Start) → let a = s.args in Within (2 ^ 45) (a.x +ℤ prediction a.a a.mem)
-sum-within s = within_weaken (within-add s.requires.within (prediction-within s.args.a s.args.mem (all_fit 10 s.well_formed.0) s.requires.all_fit)) tt
+sum-within s = within_weaken (within-add s.requires.0 (prediction-within s.args.a s.args.mem (all_fit 10 s.well_formed.0) s.requires.1)) tt
 
 sum_fits : (s : tie.Start) → let a = s.args in SFits w64 (a.x +ℤ prediction a.a a.mem)
 sum_fits s = fits-within (sum-within s) tt
 
 predicted-requires : tie.Need-predicted-p-requires
-predicted-requires c κs = c.requires.all_fit
+predicted-requires c κs = c.requires.1
 
 add-rounded-sample : tie.Need-overflow_add-x
 add-rounded-sample c =

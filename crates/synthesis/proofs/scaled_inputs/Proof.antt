@@ -53,7 +53,7 @@ loop-again c =
     (fills_next l.loop-n.invariant.0 (omega arith) is, all_within_set n l.loop-n.invariant.1 (subst (Within (2 ^ 44)) (sym is) small))
 
 returns : tie.Need-returns invariant-loop decreases-loop
-returns c = let l = c.before in record { value = fills_end l.loop-n.invariant.0 (omega arith); all_within = l.loop-n.invariant.1 }
+returns c = let l = c.before in (fills_end l.loop-n.invariant.0 (omega arith), l.loop-n.invariant.1)
 
 pub scaled_inputs_spec : {M : Type 1} → statement M
 scaled_inputs_spec =

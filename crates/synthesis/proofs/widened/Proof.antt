@@ -3,7 +3,7 @@ use Prim.Native.Nat.{◌-◌}
 use native.Mathlib.Omega.{arith}
 use lib.Seq.{take_all}
 use lib.IntN.{pos}
-use mir.Syntax.{w16}
+use mir.Syntax.{w64, w16}
 use Rattle.integers.specs.Base.{entry, AllFit, Fills}
 use Rattle.integers.specs.Signed.{widen, all_fit}
 use Rattle.integers.specs.Expression.{is_arg, is-cast, need_cast}
@@ -48,7 +48,7 @@ loop-again : tie.Need-loop-j-preserved invariant-loop decreases-loop
 loop-again c =
     let l = c.before.before in
     let f = (fit l.before).at l.loop-j.j in
-    fills_next l.loop-j.invariant (omega arith) (is-cast (is_arg f) (widen f tt)).is
+    fills_next l.loop-j.invariant (omega arith) (is-cast {w' = w64} (is_arg f) (widen f tt)).is
 
 returns : tie.Need-returns invariant-loop decreases-loop
 returns c =

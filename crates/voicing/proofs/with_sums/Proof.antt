@@ -41,7 +41,7 @@ returns c =
     let a = i.before.args in
     let u = c.uncounted.ensures in
     let unlike = not-true (lt_z (pos 0) a.s) (not_alike i.before true i.if-s-le0.true) in
-    record { lag_value = u.0; weighs_by = sums_unlike a.s a.e a.t u.1 unlike }
+    (u.0, sums_unlike a.s a.e a.t u.1 unlike)
 
 uncounted-requires-2 : tie.Need-uncounted-requires-then-e-eq0
 uncounted-requires-2 c κs = tt
@@ -51,7 +51,7 @@ returns-2 c =
     let i = c.before in
     let a = i.before.before.args in
     let u = c.uncounted-then-e-eq0.ensures in
-    record { lag_value = u.0; weighs_by = sums_silent_earlier a.s a.e a.t u.1 i.if-e-eq0.true }
+    (u.0, sums_silent_earlier a.s a.e a.t u.1 i.if-e-eq0.true)
 
 uncounted-requires-3 : tie.Need-uncounted-requires-then-t-eq0
 uncounted-requires-3 c κs = tt
@@ -61,7 +61,7 @@ returns-3 c =
     let i = c.before in
     let a = i.before.before.before.args in
     let u = c.uncounted-then-t-eq0.ensures in
-    record { lag_value = u.0; weighs_by = sums_silent_later a.s a.e a.t u.1 i.if-t-eq0.true }
+    (u.0, sums_silent_later a.s a.e a.t u.1 i.if-t-eq0.true)
 
 cast-c : tie.Need-overflow_cast-c
 cast-c c =
@@ -85,11 +85,14 @@ returns-4 c =
     let a = b.args in
     let alike = not-false (lt_z (pos 0) a.s) (not_alike b false i.before.before.if-s-le0.false) in
     let earlier = lt-ltb 0 a.e (omega (arith, i.before.if-e-eq0.false)) in
-    let later = lt-ltb 0 a.t (omega (arith, i.if-t-eq0.false)) in record { lag_value = refl; weighs_by = record {
+    let later = lt-ltb 0 a.t (omega (arith, i.if-t-eq0.false)) in (
+      refl,
+      record {
         counts = sym (λ k. alike k && (earlier k && later k));
         rank = λ u. r.lag_rank-rank.ensures ∙ ap (λ (z : ℤ). nat_abs z * nat_abs z * 2 ^ 30 / (a.e * a.t)) (read_is b);
         gated = λ u. c.passes_gate-gated.ensures ∙ ap (λ (z : ℤ). leb (a.e * a.t) (8 * (nat_abs z * nat_abs z))) (read_is b);
-      } }
+      },
+    )
 
 pub with_sums_spec : {M : Type 1} → statement M
 with_sums_spec =

@@ -18,7 +18,7 @@ returns c =
     let s = c.before.before.before in
     let p = c.before.before.product-p in
     let q = c.before.product-q in
-    ap (λ (n : ℕ). n * 2 ^ 64 + p.result.lo) c.wrapping_add_u64.ensures.value
+    ap (λ (n : ℕ). n * 2 ^ 64 + p.result.lo) c.wrapping_add_u64.ensures
     ∙ times_is (2 ^ 64) s.args.a.hi s.args.a.lo s.args.b p.result.hi p.result.lo q.result.hi q.result.lo (pow_pos 64) (search rules) p.ensures q.ensures
 
 pub times_spec : {M : Type 1} → statement M

@@ -2,7 +2,7 @@ use mathlib.Core.Path.{refl}
 use Prim.Native.Nat.{◌+◌, ◌-◌}
 use native.Mathlib.Omega.{arith}
 use borrow.Author.Rules.{sfits_of}
-use mir.Syntax.{w16}
+use mir.Syntax.{w32, w16}
 use Rattle.integers.specs.Base.{entry, Fills}
 use Rattle.integers.specs.Signed.{widen}
 use Rattle.integers.specs.Expression.{is_arg, is-cast, need_cast}
@@ -52,7 +52,7 @@ loop-again c =
     let l = c.before.before in
     let z = entry l.before.args.signal.now (240 + l.loop-i.i) in
     let fit = sfits_of {w = w16} {z = z} c.h-1.given in
-    fills_next l.loop-i.invariant (omega arith) (is-cast (is_arg fit) (widen fit tt)).is
+    fills_next l.loop-i.invariant (omega arith) (is-cast {w' = w32} (is_arg fit) (widen fit tt)).is
 
 returns : tie.Need-returns invariant-loop decreases-loop
 returns c = fills_end c.before.loop-i.invariant (omega arith)

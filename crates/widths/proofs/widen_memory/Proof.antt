@@ -2,7 +2,7 @@ use mathlib.Core.Path.{refl, ◌∙◌}
 use Prim.Native.Nat.{◌-◌}
 use native.Mathlib.Omega.{arith}
 use lib.IntN.{pos}
-use mir.Syntax.{w16}
+use mir.Syntax.{w32, w16}
 use Rattle.integers.specs.Base.{entry, AllFit, Fills}
 use Rattle.integers.specs.Signed.{widen, all_fit}
 use Rattle.integers.specs.Expression.{is_arg, is-cast, need_cast}
@@ -47,7 +47,7 @@ loop-again : tie.Need-loop-j-preserved invariant-loop decreases-loop
 loop-again c =
     let l = c.before.before in
     let f = (fit l.before).at l.loop-j.j in
-    fills_next l.loop-j.invariant (omega arith) (is-cast (is_arg f) (widen f tt)).is
+    fills_next l.loop-j.invariant (omega arith) (is-cast {w' = w32} (is_arg f) (widen f tt)).is
 
 returns : tie.Need-returns invariant-loop decreases-loop
 returns c =
