@@ -124,7 +124,7 @@ module _ (f : List ℕ) (p : Passed High f) (k : Subframe) where
 
   pub accepted-description : Accepted (description f k)
   accepted-description = record {
-    gain_index_of = ltb-false gain_index_max (gain_index_of High f k) (none_in (λ s. ltb gain_index_max (gain_index_of High f s)) p.gains k);
+    gain_index = ltb-false gain_index_max (gain_index_of High f k) (none_in (λ s. ltb gain_index_max (gain_index_of High f s)) p.gains k);
     signs = leb-false (2 ^ pulses (count k)) (signsOf f k) (none_in (wrong_signs_in f) p.signs k);
-    base_lag_of = λ t. (omega arith, train-lag t);
+    base_lag = λ t. (omega arith, train-lag t);
   }

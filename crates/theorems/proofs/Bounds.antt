@@ -36,7 +36,7 @@ use Rattle.theorems.proofs.Gains.{gain_frame}
 use Rattle.theorems.proofs.Lags.{lag_bounds, lag2_bounds}
 
 pub fresh_in_bounds : FreshInBounds
-fresh_in_bounds = states.fresh-in-bounds
+fresh_in_bounds = states.fresh_in_bounds
 
 -- ---- the end of a frame
 
@@ -53,7 +53,7 @@ module _ (s : State) (h : in_bounds s ≡ true) where
   frame_in lsps signal inputs last w l =
       let sets = frame_coefficients s.prev_lsp lsps in
       let before = filters_of s in
-      states.bounds-from (frame_state s lsps inputs signal last)
+      states.bounds_from (frame_state s lsps inputs signal last)
       (history-words signal w)
       (memory_words s.postfilter sets inputs before)
       (gain_frame s.postfilter sets inputs before (states.numbers_of s h).0 subframes_per_frame, l)
@@ -75,8 +75,8 @@ module _ (s : State) (h : in_bounds s ≡ true) where
     received_last_lem : LastIn (received_last s rate f)
     received_last_lem =
         let most = unvoiced_gain-most (block_of rate f Two).gain_index (block_of rate f Three).gain_index in
-        let lag = lag_bounds rate f c.lag-b c.step-b in
-        (lag, (lag2_bounds rate f c.lag-b, (tap_sum_bounds (block_of rate f Three).taps, (omega line, tt))))
+        let lag = lag_bounds rate f c.lag_b c.step_b in
+        (lag, (lag2_bounds rate f c.lag_b, (tap_sum_bounds (block_of rate f Three).taps, (omega line, tt))))
 
     received_in : (candidates : List ℤ) → in_bounds (received_state s rate f candidates) ≡ true
     unfolding received_state

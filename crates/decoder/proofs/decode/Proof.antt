@@ -5,7 +5,6 @@ use lib.ListN.{length}
 use Rattle.numbers.specs.declared.Refusal.TheVariants.{SampleLength, StateBounds}
 use Rattle.refusals.specs.declared.Found.{Found}
 use Rattle.state.specs.State.{in_bounds}
-use Rattle.integers.specs.Truth.{not-true, not-false}
 use Rattle.decoder.specs.Frame.{received_checked, received_samples, received_state}
 use Rattle.decoder.specs.Decoder.{examined, acceptance}
 use Rattle.decoder.proofs.Answers.{length_refused, bounds_refused, record_found_lem}
@@ -23,7 +22,7 @@ module _ (c : tie.After-examine) where
   whole = c.before.before.before.if-samples-ne-FRAME_SIZE_SAMPLES.false
 
   sound : in_bounds start.args.given ≡ true
-  sound = let t = c.before.before.in_bounds in sym t.ensures ∙ not-false {b = t.result} c.before.if-not-in_bounds.false
+  sound = let t = c.before.before.in_bounds in sym t.ensures ∙ c.before.if-not-in_bounds.false
 
   -- what it is found to be
   found-is : {k : Found} → c.examine.result ≡ k → let a = start.args in
@@ -57,7 +56,7 @@ returns-2 c =
     let a = l.before.before.args in
     let r = a.«record».now in
     let x = a.samples.now in
-    let unsound = sym b.ensures ∙ not-true {b = b.result} t.if-not-in_bounds.true in
+    let unsound = sym b.ensures ∙ t.if-not-in_bounds.true in
     let found = bounds_refused a.given r x l.if-samples-ne-FRAME_SIZE_SAMPLES.false unsound in
     refused_promised a.given r x StateBounds found c.refused-then-not-in_bounds.ensures
 
@@ -74,7 +73,7 @@ enum_told : tie.Need-enum_told-1
 enum_told c = search rules
 
 decode-erased-requires : tie.Need-decode_erased-requires
-decode-erased-requires c κs = let e = c.before.before.before in (whole e, sound e)
+decode-erased-requires c κs = let e = c.before.before in (whole e, sound e)
 
 enum-known-rate : tie.Need-enum_known-rate
 enum-known-rate c = search rules
@@ -86,41 +85,41 @@ fields-requires : tie.Need-fields-fields-requires
 fields-requires c κs = tt
 
 decode-received-requires : tie.Need-decode_received-requires
-decode-received-requires c κs = let e = c.before.before.before.before.before.before.before in (whole e, sound e)
+decode-received-requires c κs = let e = c.before.before.before.before.before in (whole e, sound e)
 
 returns-3 : tie.Need-returns-in-Refused
 returns-3 c =
-    let n = c.before.before in
-    let e = n.before.before in
+    let n = c.before in
+    let e = n.before in
     let a = (start e).args in
-    let found = found-is e n.n-1.given.1 in
-    refused_promised a.given a.«record».now a.samples.now n.n-1.given.0.0 found c.refused-in-Refused.ensures
+    let found = found-is e n.in-Refused.is in
+    refused_promised a.given a.«record».now a.samples.now n.in-Refused.n found c.refused-in-Refused.ensures
 
 same_length : tie.Need-shape_of-samples-in-Erased
-same_length c = c.before.decode_erased.auto.0
+same_length c = c.before.decode_erased.auto.samples
 
 returns-4 : tie.Need-returns-in-Erased
 returns-4 c =
     let d = c.before.decode_erased in
     let t = c.before.before.before in
-    let e = t.before.before in
+    let e = t.before in
     let a = (start e).args in
     erased_promised a.given a.«record».now a.samples.now (found-is e t.in-Erased.is) d.ensures.0 d.ensures.1
 
 same-length-2 : tie.Need-shape_of-samples-in-Received
-same-length-2 c = c.before.decode_received.auto.0
+same-length-2 c = c.before.decode_received.auto.samples
 
 returns-5 : tie.Need-returns-in-Received
 returns-5 c =
     let f = c.before.before.before in
     let l = f.before in
-    let t = l.before.before.before in
-    let e = t.before.before in
+    let t = l.before.before in
+    let e = t.before in
     let a = (start e).args in
-    let rate = t.rate-1.given.0.0 in
-    let form = t.rate-1.given.0.1.0 in
+    let rate = t.in-Received.rate in
+    let form = t.in-Received.form in
     let r = c.before.decode_received.ensures in
-    received_promised a.given a.«record».now a.samples.now rate form (found-is e t.rate-1.given.1)
+    received_promised a.given a.«record».now a.samples.now rate form (found-is e t.in-Received.is)
     (r.0 ∙ (λ i. let y = l.candidates_of-candidates.ensures i in acceptance (received_checked a.given y).outcome (received_state a.given rate (f.fields-fields.ensures i) y)))
     (r.1 ∙ (λ i. received_samples a.given rate (f.fields-fields.ensures i) (l.candidates_of-candidates.ensures i)))
 

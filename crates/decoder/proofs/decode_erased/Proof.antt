@@ -19,7 +19,7 @@ use Rattle.state.proofs.Bounds.{signal_narrowed}
 use Rattle.decoder.specs.Frame.{plain_inputs, frame_samples, frame_state}
 use Rattle.decoder.specs.Frame.{erased_checked, erased_signal, erased_samples, erased_state}
 use Rattle.decoder.specs.Decoder.{acceptance}
-use Rattle.decoder.proofs.Fields.{field-length, lag2-fits, taps-fits, gain-fits, lag2-natural}
+use Rattle.decoder.proofs.Fields.{lag2-fits, taps-fits, gain-fits, lag2-natural}
 use Rattle.decoder.proofs.decode_erased.Statement.{statement}
 use Rattle.decoder.proofs.decode_erased.Tie as tie
 
@@ -47,7 +47,7 @@ module _ (s : tie.Start) where
   given = s.args.given
 
   lag2-is : to_z w32 (of_z w32 given.last_lag2) ≡ given.last_lag2
-  lag2-is = to_z-of_z (widen (lag2-fits given s.requires.1) tt)
+  lag2-is = to_z-of_z {w = w32} (widen (lag2-fits given s.requires.1) tt)
 
 checked-is : (c : tie.After-lsp_check_or_previous-checked) → c.lsp_check_or_previous-checked.result ≡ erased_checked (given (start_of c))
 checked-is c =
@@ -66,7 +66,7 @@ silent-is : (c : tie.After-frame_signal-silent) → let g = given (start_of (che
     c.frame_signal-silent.result ≡ frame_signal g.exc_hist
 silent-is c =
     let s = start_of (checked-of (class_of c)) in
-    let size = field-length (given s).exc_hist s.well_formed.1.0.1.1.1.0.1.0.1 in
+    let size = s.well_formed.1.0.1.1.1.0.1.0.1 in
     c.frame_signal-silent.ensures ∙ signal_narrowed (given s) size s.requires.1
 
 module _ (c : tie.After-plain_inputs-inputs) where
@@ -127,7 +127,7 @@ finish-frame-requires : tie.Need-finish_frame-requires
 finish-frame-requires c κs = let s = begin-of c.before.before in (s.requires.0, s.requires.1)
 
 same_length : tie.Need-shape_of-samples
-same_length c = c.before.finish_frame.auto.0
+same_length c = c.before.finish_frame.auto.samples
 
 returns : tie.Need-returns
 unfolding erased_state erased_samples

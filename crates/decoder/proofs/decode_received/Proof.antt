@@ -19,7 +19,6 @@ use Rattle.decoder.specs.Frame.{frame_samples, frame_state, received_to}
 use Rattle.decoder.specs.Frame.{received_checked, received_signal, received_inputs}
 use Rattle.decoder.specs.Frame.{received_samples, received_state}
 use Rattle.decoder.specs.Decoder.{acceptance}
-use Rattle.decoder.proofs.Fields.{field-length}
 use Rattle.decoder.proofs.Frames.{in_turn_lem, inputs-same}
 use Rattle.decoder.proofs.decode_received.Statement.{statement}
 use Rattle.decoder.proofs.decode_received.Tie as tie
@@ -76,7 +75,7 @@ module _ (c : tie.After-read_block-b3) where
 silent-is : (c : tie.After-frame_signal-x0) → c.frame_signal-x0.result ≡ frame_signal (given (begin-of (blocks-of c))).exc_hist
 silent-is c =
     let s = begin-of (blocks-of c) in
-    let size = field-length (given s).exc_hist s.well_formed.1.0.1.1.1.0.1.0.1 in
+    let size = s.well_formed.1.0.1.1.1.0.1.0.1 in
     c.frame_signal-x0.ensures ∙ signal_narrowed (given s) size s.requires.1
 
 signal-is : (c : tie.After-received_subframe-signal) → let s = begin-of (blocks-of (silent-of c)) in
@@ -173,7 +172,7 @@ finish-frame-requires c κs =
     let s = begin-of (blocks c.before.before.before.before.before.before) in (s.requires.0, s.requires.1)
 
 same_length : tie.Need-shape_of-samples
-same_length c = c.before.finish_frame.auto.0
+same_length c = c.before.finish_frame.auto.samples
 
 returns : tie.Need-returns
 unfolding received_state received_samples

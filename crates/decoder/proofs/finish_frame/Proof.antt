@@ -13,7 +13,6 @@ use Rattle.output.specs.declared.Filters.{Filters}
 use Rattle.output.proofs.Frames.{filters_in_lem, output_in_lem}
 use Rattle.decoder.specs.Frame.{frame_samples, filters_last, frame_state}
 use Rattle.decoder.specs.Decoder.{acceptance}
-use Rattle.decoder.proofs.Fields.{field-length}
 use Rattle.decoder.proofs.finish_frame.Statement.{statement}
 use Rattle.decoder.proofs.finish_frame.Tie as tie
 
@@ -36,15 +35,15 @@ module _ (c : tie.After-output_frame-f) where
   start = memory.before.before.before.before.before
 
   abbrev written : List ℤ
-  written = c.output_frame-f.new.0
+  written = c.output_frame-f.new.samples
 
   output-length : length written ≡ 240
-  output-length = c.output_frame-f.auto.0 ∙ start.requires.0
+  output-length = c.output_frame-f.auto.samples ∙ start.requires.0
 
   memory-is : memory.narrow_memory-mem.result ≡ start.args.given.syn_mem
   memory-is =
       let given = start.args.given in
-      let size = field-length given.syn_mem start.well_formed.1.0.1.1.1.1.0.1.0.1 in
+      let size = start.well_formed.1.0.1.1.1.1.0.1.0.1 in
       memory.narrow_memory-mem.ensures ∙ memory_narrowed given size start.requires.1
 
   sets-is : let a = start.args in
@@ -80,11 +79,11 @@ part-pcm-history-start : tie.Need-slice_bounds-pcm_history-start
 part-pcm-history-start c = omega arith
 
 part-pcm-history-end : tie.Need-slice_bounds-pcm_history-end
-part-pcm-history-end c = omega (arith, output-length c.before.before)
+part-pcm-history-end c = omega (arith, output-length c.before)
 
 pcm-history-requires : tie.Need-pcm_history-tail-requires
 pcm-history-requires c κs =
-    let e = output-length c.before.before.before in simp (length-take, length-drop) (omega (arith, e))
+    let e = output-length c.before.before in simp (length-take, length-drop) (omega (arith, e))
 
 history-after-requires : tie.Need-history_after-history-requires
 history-after-requires c κs = tt
@@ -93,7 +92,7 @@ widen-memory-requires : tie.Need-widen_memory-after-requires
 widen-memory-requires c κs = tt
 
 same_length : tie.Need-shape_of-samples
-same_length c = c.before.before.before.before.before.before.before.before.before.before.output_frame-f.auto.0
+same_length c = c.before.before.before.before.before.before.before.before.before.output_frame-f.auto.samples
 
 returns : tie.Need-returns
 unfolding frame_state
@@ -101,7 +100,7 @@ returns c =
     let w = c.before.before in
     let h = w.before.before in
     let t = h.before.before in
-    let o = t.before.before.before.before in
+    let o = t.before.before.before in
     let a = (start o).args in
     let f = filters-is o in
     let told = c.struct_told-1.given in

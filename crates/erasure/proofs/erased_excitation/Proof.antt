@@ -39,27 +39,27 @@ returns c =
     let n = c.before in
     let g = n.before in
     let told = g.before in
-    let b = told.before.before in
+    let b = told.before in
     let a = b.args in
     let read = ap (λ (z : ℤ). attenuated z a.run) (to_z-of_z {w = w16} b.ranges.gain) in
     let gain = back w16 g.attenuated_gain.type_inv (g.attenuated_gain.ensures ∙ read) in
     c.noise_frame.ensures
     ∙ (λ i. in_turn (noise_to (gain i) (n.noise_start.ensures i)) a.signal)
-    ∙ sym (ap (λ (v : Voicing). erased_excitation v a.tap-sum a.gain a.run a.signal) told.in-Unvoiced.is)
+    ∙ sym (ap (λ (v : Voicing). erased_excitation v a.tap_sum a.gain a.run a.signal) told.in-Unvoiced.is)
 
 returns-2 : tie.Need-returns-in-Voiced
 unfolding erased_excitation
 returns-2 c =
     let g = c.before in
-    let v = g.before.before in
-    let b = v.before.before in
+    let v = g.before in
+    let b = v.before in
     let a = b.args in
-    let l = limited_lag (pos v.voicing-1.given.0.0) in
-    let read = ap (λ (z : ℤ). attenuated z a.run) (to_z-of_z {w = w16} b.ranges.tap-sum) in
+    let l = limited_lag (pos v.in-Voiced.lag) in
+    let read = ap (λ (z : ℤ). attenuated z a.run) (to_z-of_z {w = w16} b.ranges.tap_sum) in
     let gain = back w16 g.attenuated_gain-in-Voiced.type_inv (g.attenuated_gain-in-Voiced.ensures ∙ read) in
     c.replay_frame.ensures
     ∙ (λ i. in_turn (replay_to l (gain i)) a.signal)
-    ∙ sym (ap (λ (v : Voicing). erased_excitation v a.tap-sum a.gain a.run a.signal) v.voicing-1.given.1)
+    ∙ sym (ap (λ (v : Voicing). erased_excitation v a.tap_sum a.gain a.run a.signal) v.in-Voiced.is)
 
 pub erased_excitation_spec : {M : Type 1} → statement M
 erased_excitation_spec =

@@ -105,8 +105,8 @@ module _ (c : tie.Joined-m-l invariant-loop decreases-loop) where
   turned =
       let n = i.loop-n.n in
       let turn = i.loop-n.invariant.0 in
-      ⊎_elim (λ w. w.1 ∙ ap (λ (k : ℕ). k + 1) turn ∙ turn_on n (l i.before) (omega (arith, turn, w.0.taken)))
-      (λ w. w.1 ∙ turn-over n (l i.before) (omega (arith, bounds i.before)) (omega (arith, turn, w.0.left)))
+      ⊎_elim (λ w. w.m-is ∙ ap (λ (k : ℕ). k + 1) turn ∙ turn_on n (l i.before) (omega (arith, turn, w.if-m-l.true)))
+      (λ w. w.m-is ∙ turn-over n (l i.before) (omega (arith, bounds i.before)) (omega (arith, turn, w.if-m-l.false)))
       c.if-m-l.branch-raw
 
 loop-again : tie.Need-loop-n-preserved invariant-loop decreases-loop

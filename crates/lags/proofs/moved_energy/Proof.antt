@@ -27,12 +27,12 @@ square-at-requires-2 : tie.Need-square_at-requires-in-Forward
 square-at-requires-2 c κs = tt
 
 -- one place further
-ahead : (c : tie.After-square_at-in-Forward) → let s = c.before.before.before.before in
+ahead : (c : tie.After-square_at-in-Forward) → let s = c.before.before.before in
     let a = s.args in
     let v = a.e + c.before.square_at.result in
     (c.square_at-in-Forward.result ≤ v) × (pos (v - c.square_at-in-Forward.result) ≡ energy a.x.now (a.q + 1) 60)
 ahead c =
-    let s = c.before.before.before.before in
+    let s = c.before.before.before in
     let a = s.args in
     energy-ahead a.x.now a.q 60 a.e c.before.square_at.result c.square_at-in-Forward.result
     s.requires.0 c.before.square_at.ensures.0 c.square_at-in-Forward.ensures.0
@@ -59,12 +59,12 @@ square-at-requires-4 : tie.Need-square_at-requires-in-Backward-2
 square-at-requires-4 c κs = tt
 
 -- one place back
-behind : (c : tie.After-square_at-in-Backward-2) → let s = c.before.before.before.before in
+behind : (c : tie.After-square_at-in-Backward-2) → let s = c.before.before.before in
     let a = s.args in
     let v = a.e + c.before.square_at-in-Backward.result in
     (c.square_at-in-Backward-2.result ≤ v) × (pos (v - c.square_at-in-Backward-2.result) ≡ energy a.x.now (a.q - 1) 60)
 behind c =
-    let s = c.before.before.before.before in
+    let s = c.before.before.before in
     let a = s.args in
     let x = a.x.now in
     let here : a.q ≡ a.q - 1 + 1 = omega (arith, s.requires.1.1.0) in
@@ -80,14 +80,14 @@ sub-result-2 c = (behind c).0
 returns : tie.Need-returns-in-Forward
 returns c =
     let t = c.before.before in
-    let a = t.before.before.args in
+    let a = t.before.args in
     let moved = sym (ap (λ (to : Direction). energy a.x.now (next to a.q) 60) t.in-Forward.is) in
     ((ahead c).1 ∙ moved, omega (arith, c.before.square_at.ensures.1))
 
 returns-2 : tie.Need-returns-in-Backward
 returns-2 c =
     let t = c.before.before in
-    let a = t.before.before.args in
+    let a = t.before.args in
     let moved = sym (ap (λ (to : Direction). energy a.x.now (next to a.q) 60) t.in-Backward.is) in
     ((behind c).1 ∙ moved, omega (arith, c.before.square_at-in-Backward.ensures.1))
 

@@ -122,9 +122,9 @@ module _ (e : tie.Else-s-le0) where
 
   counted : counts (x s) (to s) (p s) (lo s + k s) ≡ true
   counted =
-      let inside = subst (λ (q : ℕ). q + 60 ≤ 386) s.requires.1.0 e.before.before.before.if-q-gt-SIGNAL_SIZE.left in
-      let above : 0 < s.args.d = omega (arith, e.before.before.if-d-eq0.left) in
-      counts_all (x s) (to s) (p s) (lo s + k s) inside (alike e.before false e.if-s-le0.left) (loud s true (lt-ltb 0 s.args.d above))
+      let inside = subst (λ (q : ℕ). q + 60 ≤ 386) s.requires.1.0 e.before.before.before.if-q-gt-SIGNAL_SIZE.false in
+      let above : 0 < s.args.d = omega (arith, e.before.before.if-d-eq0.false) in
+      counts_all (x s) (to s) (p s) (lo s + k s) inside (alike e.before false e.if-s-le0.false) (loud s true (lt-ltb 0 s.args.d above))
 
   is_c : nat_abs (read e.before) ≡ c (x s) (to s) (p s) (lo s + k s)
   is_c = ap nat_abs (read_is e.before)

@@ -20,14 +20,14 @@ cast-result : tie.Need-overflow_cast-result-then-m-p
 cast-result c = search rules
 
 returns : tie.Need-returns-in-Forward
-returns c = let a = c.before.before.args in sym (ap (λ (to : Direction). window to a.p a.m) c.in-Forward.is)
+returns c = let a = c.before.args in sym (ap (λ (to : Direction). window to a.p a.m) c.in-Forward.is)
 
 returns-2 : tie.Need-returns-then-m-p
-returns-2 c = let a = c.before.before.before.args in sym (ap (λ (to : Direction). window to a.p a.m) c.before.in-Backward.is)
+returns-2 c = let a = c.before.before.args in sym (ap (λ (to : Direction). window to a.p a.m) c.before.in-Backward.is)
 
 returns-3 : tie.Need-returns-else-m-p
 returns-3 c =
-    let a = c.before.before.before.args in
+    let a = c.before.before.args in
     let none : 0 ≡ a.p - a.m = omega (arith, c.if-m-p.false) in
     none ∙ sym (ap (λ (to : Direction). window to a.p a.m) c.before.in-Backward.is)
 

@@ -43,8 +43,8 @@ loop-again c =
     let now = line_of l.loop-i.text l.loop-i.len l.loop-i.over in
     let next = line_of c.if-len-lt-LINE_MAX.text c.if-len-lt-LINE_MAX.len c.if-len-lt-LINE_MAX.over in
     let e : pushed now (get_or xs i 0) ≡ next =
-    ⊎_elim (λ w. push_kept l.loop-i.text l.loop-i.len l.loop-i.over (get_or xs i 0) w.0.taken ∙ (λ k. line_of (sym w.2 k) (sym w.3 k) (sym w.4 k)))
-    (λ w. push_over l.loop-i.text l.loop-i.len l.loop-i.over (get_or xs i 0) w.0.left ∙ (λ k. line_of (sym w.1 k) (sym w.2 k) (sym w.3 k)))
+    ⊎_elim (λ w. push_kept l.loop-i.text l.loop-i.len l.loop-i.over (get_or xs i 0) w.if-len-lt-LINE_MAX.true ∙ (λ k. line_of (sym w.text-is k) (sym w.len-is k) (sym w.over-is k)))
+    (λ w. push_over l.loop-i.text l.loop-i.len l.loop-i.over (get_or xs i 0) w.if-len-lt-LINE_MAX.false ∙ (λ k. line_of (sym w.text-is k) (sym w.len-is k) (sym w.over-is k)))
     c.if-len-lt-LINE_MAX.branch-raw in
     (omega arith, l.loop-i.invariant.1 ∙ push_next now xs i (omega arith) ∙ ap (λ (m : Line). pushed_all m (drop (i + 1) xs)) e)
 

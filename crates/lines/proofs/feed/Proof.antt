@@ -15,8 +15,8 @@ newline-requires c κs = tt
 
 slice-aggregate-part-reply : tie.Need-slice_bounds-part_reply-end
 slice-aggregate-part-reply c =
-    let n = c.before.before in
-    let xs = n.before.before.before.before.before.args.input.now in
+    let n = c in
+    let xs = n.args.input.now in
     sym (length-take-le n.newline-end.result xs (omega (arith, n.newline-end.ensures, newline_inside xs)))
 
 part-reply-requires : tie.Need-part_reply-a-requires
@@ -31,8 +31,8 @@ progress-by-requires c κs = tt
 returns : tie.Need-returns-then-end-input
 returns c =
     let p = c.before in
-    let n = p.before.before.before in
-    let a = n.before.before.before.before.before.args in
+    let n = p in
+    let a = n.args in
     let e = n.newline-end.ensures in
     let l : p.part_reply-a.result ≡ line_reply (longer a.given a.input.now).line a.given.state =
     p.part_reply-a.ensures ∙ ap (λ (k : ℕ). line_reply (pushed_all a.given.line (take k a.input.now)) a.given.state) e in
@@ -48,7 +48,7 @@ returns-2 : tie.Need-returns
 returns-2 c =
     let p = c.before in
     let n = p.before.before in
-    let a = n.before.before.before.before.before.args in
+    let a = n.args in
     let e = n.newline-end.ensures in
     let g : length a.input.now ≤ newline_at a.input.now = omega (arith, e) in
     let l : p.append-longer.result ≡ (longer a.given a.input.now).line =

@@ -17,7 +17,7 @@ returns c =
     let l = c.before in
     let b = l.before.before.before in
     let r = b.before.before.before.args.given in
-    finish_begun r c.progress_by.result (sym b.before.is_begun.ensures ∙ b.if-is_begun.true) (ended_is r l.Line-Reply.result c.progress_by.result l.Line-Reply.ensures c.progress_by.ensures)
+    finish_begun r c.progress_by.result (sym b.before.is_begun.ensures ∙ b.if-is_begun.true) (ended_is r l.line_reply-a.result c.progress_by.result l.line_reply-a.ensures c.progress_by.ensures)
 
 no-text-requires : tie.Need-no_text-requires
 no-text-requires c κs = tt

@@ -8,7 +8,7 @@ use Rattle.lines.proofs.front_reply.Statement.{statement}
 use Rattle.lines.proofs.front_reply.Tie as tie
 
 slice-aggregate-text-reply : tie.Need-slice_bounds-text_reply-end
-slice-aggregate-text-reply c = let a = c.before.before.before.args in sym (length-take-le a.len a.text.now (omega arith))
+slice-aggregate-text-reply c = let a = c.args in sym (length-take-le a.len a.text.now (omega arith))
 
 text-reply-requires : tie.Need-text_reply-requires
 text-reply-requires c κs = tt
@@ -21,7 +21,7 @@ text-reply-requires-2 c κs = tt
 
 returns-2 : tie.Need-returns
 returns-2 c =
-    let a = c.before.before.before.args in
+    let a = c.args in
     c.text_reply-2.ensures ∙ ap (λ (l : List ℕ). text_reply l a.given) (sym (take_all a.len a.text.now (omega arith)))
 
 pub front_reply_spec : {M : Type 1} → statement M

@@ -21,7 +21,7 @@ line-reply-requires c κs = tt
 returns : tie.Need-returns-then-is_begun
 returns c =
     let a = c.before.before.before.before.before.args in
-    c.Line-Reply.ensures ∙ ap (λ (l : Line). line_reply l a.given) c.before.append-longer.ensures
+    c.line_reply.ensures ∙ ap (λ (l : Line). line_reply l a.given) c.before.append-longer.ensures
 
 text-reply-requires : tie.Need-text_reply-requires
 text-reply-requires c κs = tt
@@ -31,7 +31,7 @@ returns-2 c =
     let s = c.before.before.before.before in
     let a = s.args in
     let n = not_begun a.line (sym c.before.before.is_begun.ensures ∙ c.before.if-is_begun.false) in
-    let k = kept_all a.line [] a.part.now (kept-none a.line (sym (length-map a.line.text (λ b. b)) ∙ s.well_formed.1.0.1.1.0.1.0.1) n.0 n.1) in
+    let k = kept_all a.line [] a.part.now (kept-none a.line s.well_formed.1.0.1.1.0.1.0.1 n.0 n.1) in
     c.text_reply.ensures ∙ sym (kept_reply (pushed_all a.line a.part.now) a.part.now a.given k)
 
 pub part_reply_spec : {M : Type 1} → statement M

@@ -9,7 +9,7 @@ use Rattle.lines.proofs.record_reply.Statement.{statement}
 use Rattle.lines.proofs.record_reply.Tie as tie
 
 slice-aggregate-decoded : tie.Need-slice_bounds-decoded-end
-slice-aggregate-decoded c = let a = c.before.before.before.args in sym (length-take-le a.count a.bytes.now (omega arith))
+slice-aggregate-decoded c = let a = c.args in sym (length-take-le a.count a.bytes.now (omega arith))
 
 decoded-requires : tie.Need-decoded-requires
 decoded-requires c κs = tt
@@ -22,7 +22,7 @@ decoded-requires-2 c κs = tt
 
 returns-2 : tie.Need-returns
 returns-2 c =
-    let a = c.before.before.before.args in
+    let a = c.args in
     c.decoded-2.ensures ∙ ap (λ (l : List ℕ). reply_of true l a.given) (sym (take_all a.count a.bytes.now (omega arith)))
 
 pub record_reply_spec : {M : Type 1} → statement M

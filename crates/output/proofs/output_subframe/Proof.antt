@@ -1,3 +1,4 @@
+use mathlib.Core.Bool.{not}
 use mathlib.Core.Path.{◌∙◌, ap}
 use Rattle.postfilter.specs.Postfilter.{filtered, postfilter_after}
 use Rattle.output.proofs.Subframes.{output-off, output_on, memories_off, memories_on}
@@ -19,14 +20,14 @@ write-samples-requires : tie.Need-write_samples-requires
 write-samples-requires c κs = (start_of c.before.before).requires
 
 same_length : tie.Need-shape_of-part-then-not-on
-same_length c = c.before.write_samples.auto.0
+same_length c = c.before.write_samples.auto.part
 
 returns : tie.Need-returns-then-not-on
 returns c =
     let t = c.before.before.before in
     let y = (synthesis-of t.before).synthesis_subframe-y in
     let a = (start_of t.before).args in
-    let off = t.if-not-on.true in (
+    let off = ap not t.if-not-on.true in (
       (λ i. record { syn_mem = y.ensures.1 i; pf = a.f.pf }) ∙ memories_off a.on a.a a.x a.f off,
       c.before.write_samples.ensures ∙ y.ensures.0 ∙ output-off a.on a.a a.x a.f off,
     )
@@ -38,7 +39,7 @@ write-samples-requires-2 : tie.Need-write_samples-requires-2
 write-samples-requires-2 c κs = (start_of c.before.before.before.before.before).requires
 
 same-length-2 : tie.Need-shape_of-part
-same-length-2 c = c.before.write_samples-2.auto.0
+same-length-2 c = c.before.write_samples-2.auto.part
 
 returns-2 : tie.Need-returns
 returns-2 c =
@@ -47,7 +48,7 @@ returns-2 c =
     let t = z.before in
     let y = (synthesis-of t.before).synthesis_subframe-y in
     let a = (start_of t.before).args in
-    let on = t.if-not-on.false in
+    let on = ap not t.if-not-on.false in
     let f = z.postfilter_subframe-z.ensures in
     let passed = f.1 ∙ ap (postfilter_after a.f.pf a.a) y.ensures.0 in
     let written = f.0 ∙ ap (filtered a.f.pf a.a) y.ensures.0 in (

@@ -79,7 +79,7 @@ loop-again c =
     let x = l.loop-s.samples in
     let part = r.ensures.1 ∙ ap (subframe_output a.on (get_or a.sets k []) (get_or a.inputs k [])) v.3 in
     let passed = r.ensures.0 ∙ ap (filters_after a.on (get_or a.sets k []) (get_or a.inputs k [])) v.3 in
-    let e : put_mid (60 * k) m x r.new.0 ≡ written a.on a.sets a.inputs a.f o (k + 1)
+    let e : put_mid (60 * k) m x r.new.part ≡ written a.on a.sets a.inputs a.f o (k + 1)
     = ap (put_mid (60 * k) m x) part ∙ written_next a.on a.sets a.inputs a.f o x k m (omega arith) v.1 in (
       omega arith,
       e,

@@ -39,7 +39,7 @@ module _ (c : tie.After-square_sum-arg-1 invariant-loop decreases-loop) where
   small = l.before.requires.at l.loop-n.n
 
 square-sum-requires : tie.Need-square_sum-e-requires invariant-loop decreases-loop
-square-sum-requires c κs = (omega arith, within-is (is-mag (sample c) c.square_sum-arg-1.given) (small c))
+square-sum-requires c κs = (omega arith, within-is {w = w32} (is-mag (sample c) c.square_sum-arg-1.given) (small c))
 
 -- what a turn adds
 added : (c : tie.After-square_sum-e invariant-loop decreases-loop) → let b = c.before in c.square_sum-e.result ≡ (l b).loop-n.e + nat_abs (sample b *ℤ sample b)

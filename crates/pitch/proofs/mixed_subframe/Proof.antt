@@ -62,7 +62,7 @@ loop-again c =
     let s = read_back w16 (entry a.x.now (a.p + n)) c.before.before.mixed_sample-arg-1.given in
     let y = read_back w16 (entry a.x.now (a.q + n)) c.before.mixed_sample-arg-in-loop-n-1.given in (
       fills_next l.loop-n.invariant.0 (omega arith) (back w32 r.type_inv (r.ensures.0 ∙ (λ i. mixed_sample a.w (s i) (y i)))),
-      all_within_set n l.loop-n.invariant.1 (within-is (is-mag r.result r.type_inv) r.ensures.1),
+      all_within_set n l.loop-n.invariant.1 (within-is {w = w32} (is-mag r.result r.type_inv) r.ensures.1),
     )
 
 returns : tie.Need-returns invariant-loop decreases-loop

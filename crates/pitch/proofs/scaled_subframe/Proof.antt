@@ -29,7 +29,7 @@ level-sample-requires : tie.Need-level_sample-requires invariant-loop decreases-
 level-sample-requires c κs =
     let l = c.before.before in
     let n = l.loop-n.n in
-    (l.before.requires.0, within-is (is-mag (entry l.before.args.v n) c.level_sample-arg-1.given) (l.before.requires.1.at n))
+    (l.before.requires.0, within-is {w = w32} (is-mag (entry l.before.args.v n) c.level_sample-arg-1.given) (l.before.requires.1.at n))
 
 mul-u : tie.Need-offset_bounds-u-n invariant-loop decreases-loop
 mul-u c = omega arith

@@ -41,7 +41,7 @@ module _ (c : tie.After-v-1 invariant-loop decreases-loop) where
   sample-fits = fits-within (within-mag w16 sample c.v-1.given) tt
 
 cast-v : tie.Need-overflow_cast-v invariant-loop decreases-loop
-cast-v c = need_cast (is-mag (sample c) c.v-1.given) (sample-fits c)
+cast-v c = need_cast {w = w16} (is-mag (sample c) c.v-1.given) (sample-fits c)
 
 mul-v-2 : tie.Need-offset_bounds-v-n invariant-loop decreases-loop
 mul-v-2 c = omega arith
@@ -56,7 +56,7 @@ loop-less : tie.Need-loop-n-smaller invariant-loop decreases-loop
 loop-less c = omega arith
 
 loop-again : tie.Need-loop-n-preserved invariant-loop decreases-loop
-loop-again c = fills_next (l c).loop-n.invariant (omega arith) (is-cast {w' = w32} (is-mag (sample c) c.v-1.given) (sample-fits c)).is
+loop-again c = fills_next (l c).loop-n.invariant (omega arith) (is-cast {w = w16} {w' = w32} (is-mag (sample c) c.v-1.given) (sample-fits c)).is
 
 returns : tie.Need-returns invariant-loop decreases-loop
 returns c = fills_end c.before.loop-n.invariant (omega arith)

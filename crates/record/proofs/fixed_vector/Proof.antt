@@ -26,7 +26,7 @@ block-place-requires : tie.Need-block_place-requires
 block-place-requires c κs = tt
 
 place-small : (c : tie.After-block_place) → c.block_place.result ≤ 397
-place-small c = omega (arith, c.block_place.ensures, block_place-bound Low c.before.before.before.before.args.s)
+place-small c = omega (arith, c.block_place.ensures, block_place-bound Low c.before.before.before.args.s)
 
 add-values-at : tie.Need-overflow_add-block_place
 add-values-at c = omega (arith, place-small c)
@@ -37,14 +37,14 @@ values-at-requires c κs = omega (arith, place-small c)
 returns : tie.Need-returns-in-High
 returns c =
     let m = c.before.before in
-    let a = m.before.before.before.args in
+    let a = m.before.before.args in
     c.mpmlq_fixed_vector.ensures ∙ ap vector c.before.pulse_description.ensures
     ∙ sym (ap (λ (k : Rate). fixed k a.fields.now a.s) m.in-High.is)
 
 returns-2 : tie.Need-returns-in-Low
 returns-2 c =
     let m = c.before.before in
-    let a = m.before.before.before.args in
+    let a = m.before.before.args in
     c.values_at.ensures ∙ (λ i. words a.fields.now (c.before.block_place.ensures i + 11) 60)
     ∙ sym (ap (λ (k : Rate). fixed k a.fields.now a.s) m.in-Low.is)
 

@@ -69,10 +69,10 @@ module _ (c : tie.Joined-s) where
 
   code_is : (code ≡ stepCode r s) × (code < 256)
   code_is =
-      ⊎_elim (λ w. (w.2 ∙ sym (ap (stepCode r) w.1.given.1), omega arith))
-      (⊎_elim (λ w. (w.3 ∙ w.2.ensures ∙ sym (ap (stepCode r) w.1.given.1), omega arith))
-      (⊎_elim (λ w. (w.2 ∙ sym (ap (stepCode r) w.1.given.1), omega arith))
-      (λ w. (w.3 ∙ w.2.ensures ∙ sym (ap (stepCode r) w.1.given.1), omega arith)))) c.match-s.branch-raw
+      ⊎_elim (λ w. (w.code-is ∙ sym (ap (stepCode r) w.in-Zero.is), omega arith))
+      (⊎_elim (λ w. (w.code-is ∙ w.byte_field-code.ensures ∙ sym (ap (stepCode r) w.in-One.is), omega arith))
+      (⊎_elim (λ w. (w.code-is ∙ sym (ap (stepCode r) w.in-Two.is), omega arith))
+      (λ w. (w.code-is ∙ w.byte_field-code-in-Three.ensures ∙ sym (ap (stepCode r) w.in-Three.is), omega arith)))) c.match-s.branch-raw
 
   base_read : Is w32 base (pos base)
   base_read = is-mag (pos base) (omega arith)
@@ -93,21 +93,21 @@ cast-result : tie.Need-overflow_cast-result
 cast-result c = record { sfits = omega arith }
 
 cast-result-2 : tie.Need-overflow_cast-result-2
-cast-result-2 c = record { sfits = omega (arith, code_is c) }
+cast-result-2 c = record { sfits = omega (arith, code_is c.before) }
 
 cast-result-3 : tie.Need-overflow_cast-result-3
 cast-result-3 c = search rules
 
 sub-result : tie.Need-overflow_sub-result
-sub-result c = need_sub (code_read c) (is-lit w32 1) (fits-within (step_small c) tt)
+sub-result c = need_sub (code_read c.before) (is-lit w32 1) (fits-within (step_small c.before) tt)
 
 add-result : tie.Need-overflow_add-result
-add-result c = need_add (base_read c) (step-read c) (sum_fits c)
+add-result c = need_add (base_read c.before) (step-read c.before) (sum_fits c.before)
 
 returns : tie.Need-returns
 returns c =
-    (is-add (base_read c) (step-read c) (sum_fits c)).is ∙ (λ i. pos (c.before.base_lag-base.ensures i) +ℤ step ((code_is c).0 i))
-    ∙ lag-is (r c) (s c)
+    (is-add (base_read c.before) (step-read c.before) (sum_fits c.before)).is ∙ (λ i. pos (c.before.before.base_lag-base.ensures i) +ℤ step ((code_is c.before).0 i))
+    ∙ lag-is (r c.before) (s c.before)
 
 pub own_lag_spec : {M : Type 1} → statement M
 own_lag_spec =

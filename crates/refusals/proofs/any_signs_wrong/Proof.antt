@@ -33,12 +33,12 @@ returns c =
     let t = d.before in
     let o = t.before in
     let m = o.before.before in
-    let a = m.before.before.before.args in
+    let a = m.before.before.args in
     c.in_any.ensures ∙ (λ i. o.before.signs_wrong.ensures i || (o.signs_wrong-in-High.ensures i || (t.signs_wrong-in-High-2.ensures i || d.signs_wrong-in-High-3.ensures i)))
     ∙ sym (ap (λ (k : Rate). wrong_signs k a.fields.now) m.in-High.is)
 
 returns-2 : tie.Need-returns-in-Low
-returns-2 c = let a = c.before.before.before.args in sym (ap (λ (k : Rate). wrong_signs k a.fields.now) c.in-Low.is)
+returns-2 c = let a = c.before.before.args in sym (ap (λ (k : Rate). wrong_signs k a.fields.now) c.in-Low.is)
 
 pub any_signs_wrong_spec : {M : Type 1} → statement M
 any_signs_wrong_spec =

@@ -108,19 +108,19 @@ arm c x e h g =
 
 returns-4 : tie.Need-returns-in-0
 unfolding found_of
-returns-4 c = arm c.before Erased c.in-0.keys1 refl refl
+returns-4 c = arm c.before Erased c.in-0.is refl refl
 
 returns-5 : tie.Need-returns-in-1
 unfolding found_of
-returns-5 c = let m = c.before in let f = c.record_found in arm m.before f.result m.in.keys2 f.ensures.0 f.ensures.1
+returns-5 c = let m = c.before in let f = c.record_found in arm m.before f.result m.in-1.is f.ensures.0 f.ensures.1
 
 returns-6 : tie.Need-returns-in-2
 unfolding found_of
-returns-6 c = let m = c.before in let f = c.record_found-in-2 in arm m.before f.result m.in-2.keys3 f.ensures.0 f.ensures.1
+returns-6 c = let m = c.before in let f = c.record_found-in-2 in arm m.before f.result m.in-2.is f.ensures.0 f.ensures.1
 
 returns-7 : tie.Need-returns-in-3
 unfolding found_of
-returns-7 c = let m = c.before in let f = c.record_found-in-3 in arm m.before f.result m.in-3.keys4 f.ensures.0 f.ensures.1
+returns-7 c = let m = c.before in let f = c.record_found-in-3 in arm m.before f.result m.in-3.is f.ensures.0 f.ensures.1
 
 returns-8 : tie.Need-returns-in_default
 unfolding found_of
@@ -128,7 +128,7 @@ returns-8 c =
     let m = c.before in
     let f = c.record_found-in_default in
     let e = m.before.before in
-    let o = m.in_default.rest in
+    let o = m.in_default.in_default-own.rest in
     arm m.before f.result (last_kind e.before.before.byte_field-kind.result o.0.0.0.1 o.0.0.1 o.0.1 o.1 e.before.if-kind-gt-KIND_MAX.false)
     f.ensures.0 f.ensures.1
 

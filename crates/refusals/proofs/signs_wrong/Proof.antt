@@ -50,16 +50,16 @@ module _ (c : tie.After-byte_field-signs) where
   tested e = λ i. leb (2 ^ pulses (count (sym e i))) (read i)
 
 returns : tie.Need-returns-in-Zero
-returns c = tested c.before.before c.in-Zero.is
+returns c = tested c.before c.in-Zero.is
 
 returns-2 : tie.Need-returns-in-One
-returns-2 c = tested c.before.before c.in-One.is
+returns-2 c = tested c.before c.in-One.is
 
 returns-3 : tie.Need-returns-in-Two
-returns-3 c = tested c.before.before c.in-Two.is
+returns-3 c = tested c.before c.in-Two.is
 
 returns-4 : tie.Need-returns-in-Three
-returns-4 c = tested c.before.before c.in-Three.is
+returns-4 c = tested c.before c.in-Three.is
 
 pub signs_wrong_spec : {M : Type 1} → statement M
 signs_wrong_spec =

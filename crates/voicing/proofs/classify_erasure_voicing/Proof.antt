@@ -17,11 +17,11 @@ module _ (c : tie.After-leading-w) where
   w = c.leading-w.result
 
   answer : (t : Bool) → (w.counts && w.gated) ≡ t
-      → let a = c.before.args in cond t (Voiced w.lag) Unvoiced ≡ voicing_of a.pcm-hist.now a.centre
+      → let a = c.before.args in cond t (Voiced w.lag) Unvoiced ≡ voicing_of a.pcm_hist.now a.centre
   answer t e =
       let a = c.before.args in
       ap (λ (b : Bool). cond b (Voiced w.lag) Unvoiced) (sym e)
-      ∙ answered a.pcm-hist.now a.centre w c.leading-w.ensures
+      ∙ answered a.pcm_hist.now a.centre w c.leading-w.ensures
 
 returns : tie.Need-returns-then-w-2
 returns c = let f = c.before in answer f.before true (λ i. f.if-w.true i && c.if-w-2.true i)
@@ -30,8 +30,8 @@ returns-2 : tie.Need-returns
 returns-2 c =
     let v = w c.before in
     let failed : (v.counts && v.gated) ≡ false =
-    ⊎_elim (λ g. ap (λ (b : Bool). v.counts && b) g.1.left ∙ and-false v.counts)
-    (λ g. ap (λ (b : Bool). b && v.gated) g.left) c.else-w.branch-raw in
+    ⊎_elim (λ g. ap (λ (b : Bool). v.counts && b) g.if-w-2.false ∙ and-false v.counts)
+    (λ g. ap (λ (b : Bool). b && v.gated) g.if-w.false) c.else-w.branch-raw in
     answer c.before false failed
 
 pub classify_erasure_voicing_spec : {M : Type 1} → statement M

@@ -23,7 +23,7 @@ less-requires c κs = tt
 -- both count
 module _ (c : tie.After-less) (t : Bool) (h : c.less.result ≡ t) where
   abbrev f : tie.Else-not-a
-  f = c.before.before
+  f = c.before.before.before
 
   abbrev e : tie.Else-not-b
   e = f.before.before
@@ -36,7 +36,7 @@ module _ (c : tie.After-less) (t : Bool) (h : c.less.result ≡ t) where
 
   ranked : cond t b a ≡ cond (ltb (score_of a) (score_of b)) b a
   ranked =
-      higher_ranks a b (not-false b.counts e.if-not-b.left) t (not-false a.counts f.if-not-a.left)
+      higher_ranks a b (not-false b.counts e.if-not-b.false) t (not-false a.counts f.if-not-a.false)
       (sym c.less.ensures ∙ h)
 
 returns-3 : tie.Need-returns-then-less

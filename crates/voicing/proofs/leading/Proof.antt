@@ -7,10 +7,10 @@ use Rattle.voicing.proofs.leading.Statement.{statement}
 use Rattle.voicing.proofs.leading.Tie as tie
 
 abbrev invariant-loop : tie.invariant-loop-k
-invariant-loop pcm-hist centre best₀ k₀ best k = (1 ≤ k) × (k ≤ 7) × Weighs pcm-hist (leader pcm-hist centre (k - 1)) best
+invariant-loop pcm_hist centre best₀ k₀ best k = (1 ≤ k) × (k ≤ 7) × Weighs pcm_hist (leader pcm_hist centre (k - 1)) best
 
 abbrev decreases-loop : tie.decreases-loop-k
-decreases-loop pcm-hist centre best₀ k₀ best k = 7 - k
+decreases-loop pcm_hist centre best₀ k₀ best k = 7 - k
 
 candidate-lag-requires : tie.Need-candidate_lag-requires invariant-loop decreases-loop
 candidate-lag-requires c κs = omega arith
@@ -21,7 +21,7 @@ weighed-requires c κs = tt
 loop-holds : tie.Need-loop-k-init invariant-loop decreases-loop
 loop-holds c =
     let a = c.before.before.args in
-    let y = a.pcm-hist.now in
+    let y = a.pcm_hist.now in
     let w = c.weighed-best in
     let first = subst (λ (m : ℕ). Weighs y m w.result) c.before.candidate_lag.ensures w.ensures in
     (omega arith, omega arith, leads-start y a.centre w.result first)
@@ -47,7 +47,7 @@ loop-again c =
     let v = w.weighed-next in
     let l = w.before.before.before in
     let a = l.before.before.before.args in
-    let y = a.pcm-hist.now in
+    let y = a.pcm_hist.now in
     let i = l.loop-k.invariant in
     let k = l.loop-k.k in
     let next = subst (λ (m : ℕ). Weighs y m v.result) w.before.candidate_lag-in-loop-k.ensures v.ensures in
@@ -59,7 +59,7 @@ returns : tie.Need-returns invariant-loop decreases-loop
 returns c =
     let l = c.before in
     let a = l.before.before.before.args in
-    let y = a.pcm-hist.now in
+    let y = a.pcm_hist.now in
     let turns : l.loop-k.k - 1 ≡ 6 = omega arith in
     let last = ap (leader y a.centre) turns ∙ leads_end y a.centre in
     subst (λ (m : ℕ). Weighs y m l.loop-k.best) last l.loop-k.invariant.2

@@ -14,7 +14,7 @@ returns : tie.Need-returns-then-lag-ge-HISTORY
 returns c =
     let a = c.before.before.args in
     let u = c.uncounted.ensures in
-    weighs_far a.pcm-hist.now a.lag c.before.if-lag-ge-HISTORY.true u.0 u.1
+    weighs_far a.pcm_hist.now a.lag c.before.if-lag-ge-HISTORY.true u.0 u.1
 
 sub-n : tie.Need-overflow_sub-n
 sub-n c = omega arith
@@ -31,7 +31,7 @@ energy-from-requires-2 c κs = tt
 with-sums-requires : tie.Need-with_sums-requires
 with-sums-requires c κs =
     let k = c.before.before.before.before.correlate-s in
-    within-le (within-is (is-mag k.result k.type_inv) k.ensures.1) (omega arith)
+    within-le (within-is {w = w64} (is-mag k.result k.type_inv) k.ensures.1) (omega arith)
 
 returns-2 : tie.Need-returns
 returns-2 c =
@@ -42,7 +42,7 @@ returns-2 c =
     let a = l.before.args in
     let s = back w64 k.correlate-s.type_inv k.correlate-s.ensures.0 in
     let w = c.with_sums.ensures in
-    weighs_near a.pcm-hist.now a.lag s e.energy_from-e.ensures.0 t.energy_from-t.ensures.0
+    weighs_near a.pcm_hist.now a.lag s e.energy_from-e.ensures.0 t.energy_from-t.ensures.0
     l.if-lag-ge-HISTORY.false w.0 w.1
 
 pub weighed_spec : {M : Type 1} → statement M
