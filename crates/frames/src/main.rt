@@ -2,6 +2,6 @@
 // line.
 #![tactic(auto)]
 
-fn main() {
-    program::frames();
+fn main(rt: HostRuntime) {
+    program::frames(&rt);
 }

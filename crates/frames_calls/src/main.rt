@@ -1,6 +1,6 @@
 // Run on calls: both rates, losses, trains, codes without slots, unstable LSPs, saturation, and lags that tie.
 #![tactic(auto)]
 
-fn main() {
-    program::frames();
+fn main(rt: HostRuntime) {
+    program::frames(&rt);
 }

@@ -1,6 +1,6 @@
 // Run on no input at all.
 #![tactic(auto)]
 
-fn main() {
-    program::frames();
+fn main(rt: HostRuntime) {
+    program::frames(&rt);
 }

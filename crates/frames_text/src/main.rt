@@ -2,6 +2,6 @@
 // 1,099 characters and no newline.
 #![tactic(auto)]
 
-fn main() {
-    program::frames();
+fn main(rt: HostRuntime) {
+    program::frames(&rt);
 }

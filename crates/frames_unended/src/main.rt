@@ -1,6 +1,6 @@
 // Run on lines of which the last, a record that is accepted, has no newline.
 #![tactic(auto)]
 
-fn main() {
-    program::frames();
+fn main(rt: HostRuntime) {
+    program::frames(&rt);
 }

@@ -6,7 +6,7 @@
 ghost use Rattle.std.specs.Prelude.{◌≡◌, true, List, ℕ};
 ghost use Rattle.lines.specs.Stream.{stream_after, finished, printed_tallies};
 
-use libc::{STDIN_FILENO, STDOUT_FILENO};
+use std::io::{Input, Read};
 use lines::Stream;
 
 // What is carried on, whether every write was done, and whether there may be more to read.
@@ -17,12 +17,15 @@ struct Turn {
     more: bool,
 }
 
+// Standard output.
+const STDOUT: i32 = 1;
+
 // The first `len` bytes.
 fn write(bytes: &[u8], len: usize) -> bool {
     if len < bytes.len() {
-        return io::write_all(STDOUT_FILENO, &bytes[..len]);
+        return io::write_all(STDOUT, &bytes[..len]);
     }
-    io::write_all(STDOUT_FILENO, bytes)
+    io::write_all(STDOUT, bytes)
 }
 
 // All that a piece of the input adds, by one call of `feed` after the other. What is carried is what some bytes leave, even
@@ -54,25 +57,23 @@ fn piece(given: Stream, input: &[u8]) -> Turn
     }
 }
 
-fn read_piece(given: Stream) -> Turn
+fn read_piece<R: Read>(reader: &mut R, given: Stream) -> Turn
     ensures { (xs : List ℕ) × (result.stream ≡ stream_after given xs) }
 {
     let mut buf = io::large_buffer();
-    let got = libc::read(STDIN_FILENO, &mut buf);
-    if got <= 0 {
-        return Turn {
+    match reader.read(&mut buf) {
+        Ok(n) if n > 0 => piece(given, &buf[..n]),
+        _ => Turn {
             stream: given,
             is_written: true,
             more: false,
-        };
+        },
     }
-    let n = io::count(got, &buf);
-    piece(given, &buf[..n])
 }
 
 // Reads to the end of the input. A proved loop has to end, so it counts its turns down from a number that no run uses up; that
 // the end of the input is seen is tested (tests/check-program).
-fn read_all(given: Stream) -> Turn
+fn read_all<R: Read>(reader: &mut R, given: Stream) -> Turn
     ensures { (input : List ℕ) × (result.stream ≡ stream_after given input) }
 {
     let mut now = Turn {
@@ -83,7 +84,7 @@ fn read_all(given: Stream) -> Turn
     let mut turns = u64::MAX;
     while turns > 0 && now.more {
         let stream = now.stream;
-        let next = read_piece(stream);
+        let next = read_piece(reader, stream);
         now = next;
         turns -= 1;
     }
@@ -109,11 +110,12 @@ fn close(given: Stream) -> [u64; 12]
 
 // Document 01's program `frames`. It answers the tallies of the closing lines, or those of no input where a write failed before
 // its end. Which bytes were read is in no contract of `read`, so that the promise says that there are such.
-pub fn frames() -> [u64; 12]
+pub fn frames(rt: &impl Input) -> [u64; 12]
     ensures { (input : List ℕ) × (result ≡ printed_tallies input) }
 {
     let start = lines::start();
-    let t = read_all(start);
+    let mut reader = rt.reader();
+    let t = read_all(&mut reader, start);
     if !t.is_written {
         return counts::no_tallies();
     }

@@ -6,7 +6,7 @@ use Rattle.program.proofs.write.Statement.{statement}
 use Rattle.program.proofs.write.Tie as tie
 
 slice-aggregate-write-all : tie.Need-slice_bounds-write_all-end
-slice-aggregate-write-all c = let a = c.before.before.before.args in sym (length-take-le a.len a.bytes.now (omega arith))
+slice-aggregate-write-all c = let a = c.args in sym (length-take-le a.len a.bytes.now (omega arith))
 
 write-all-requires : tie.Need-write_all-requires
 write-all-requires c κs = tt
