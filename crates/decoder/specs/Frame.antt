@@ -38,7 +38,7 @@ plain_inputs x = each_subframe (λ s. unchanged x (subframe_place s))
 
 -- through the pitch postfilter, around a lag for each
 abbrev pub pitch_inputs : Rate → (Subframe → ℤ) → List ℤ → List (List ℤ)
-pitch_inputs rate lagOf x = each_subframe (λ s. postfiltered x rate (subframe_place s) (limited_lag (lagOf s)))
+pitch_inputs rate lag_of x = each_subframe (λ s. postfiltered x rate (subframe_place s) (limited_lag (lag_of s)))
 
 -- ---- the end of a frame: its samples, and the next state
 

@@ -1,6 +1,6 @@
 -- Where the fields of a record stand (document 01, "The record"; document 02, E1).
 use Rattle.std.specs.Prelude.{List, ℕ, ◌+◌, ◌*◌, drop}
-use Rattle.tables.specs.Constants.{head_values_bytes, head_index_bytes, lag_aPlace, lag_bPlace, blocks_place, block_high_bytes, block_low_bytes}
+use Rattle.tables.specs.Constants.{head_values_bytes, head_index_bytes, lag_a_place, lag_b_place, blocks_place, block_high_bytes, block_low_bytes}
 use Rattle.excitation.specs.declared.Subframe.{Subframe}
 use Rattle.excitation.specs.declared.Subframe.TheVariants.{Zero, One, Two, Three}
 use Rattle.excitation.specs.declared.Rate.{Rate}
@@ -19,10 +19,10 @@ fields_of form r = drop (head_bytes form) r
 
 -- the byte of a subframe's base lag code: code A serves subframes 0 and 1, code B 2 and 3
 abbrev pub lag_place : Subframe → ℕ
-lag_place Zero = lag_aPlace
-lag_place One = lag_aPlace
-lag_place Two = lag_bPlace
-lag_place Three = lag_bPlace
+lag_place Zero = lag_a_place
+lag_place One = lag_a_place
+lag_place Two = lag_b_place
+lag_place Three = lag_b_place
 
 -- the bytes of a block
 abbrev pub block_size : Rate → ℕ

@@ -1,7 +1,7 @@
 -- Which of the numbers 3 to 10 a record gets (document 01, "The ten numbers, tested in this order"; document 02, E1). r is the record's bytes and f its fields after the head.
 use Rattle.std.specs.Prelude.{◌≡◌, Bool, false, cond, not, ◌&&◌, ◌||◌, List, ℕ, zero, suc, ◌^◌, ltb, leb, eqb, length}
 use Rattle.tables.specs.Constants.{kind_max, record_erased_bytes, record_high_bytes, record_low_bytes, record_high_index_bytes, record_low_index_bytes}
-use Rattle.tables.specs.Constants.{lag_aPlace, lag_bPlace, step1_place, step3_place, lag_code_max, step_code_max, gain_index_max, flags_max, train_lag_limit}
+use Rattle.tables.specs.Constants.{lag_a_place, lag_b_place, step1_place, step3_place, lag_code_max, step_code_max, gain_index_max, flags_max, train_lag_limit}
 use Rattle.positions.specs.Positions.{pulses}
 use Rattle.excitation.specs.declared.Subframe.{Subframe}
 use Rattle.excitation.specs.declared.Subframe.TheVariants.{Zero, One, Two, Three}
@@ -40,7 +40,7 @@ wrong_length r = not (eqb (length r) (record_bytes (byte r 0)))
 
 -- 6: a base lag code is above 127
 abbrev pub wrong_lag_code : List ℕ → Bool
-wrong_lag_code f = ltb lag_code_max (byte f lag_aPlace) || ltb lag_code_max (byte f lag_bPlace)
+wrong_lag_code f = ltb lag_code_max (byte f lag_a_place) || ltb lag_code_max (byte f lag_b_place)
 
 -- 7: a step code is above 3
 abbrev pub wrong_step_code : List ℕ → Bool

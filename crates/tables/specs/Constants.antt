@@ -231,14 +231,14 @@ abbrev pub head_index_bytes : ℕ
 head_index_bytes = 4
 
 -- places in the fields after the head: base lag code A, the step code of subframe 1, base lag code B, the step code of subframe 3, the first block
-abbrev pub lag_aPlace : ℕ
-lag_aPlace = 0
+abbrev pub lag_a_place : ℕ
+lag_a_place = 0
 
 abbrev pub step1_place : ℕ
 step1_place = 1
 
-abbrev pub lag_bPlace : ℕ
-lag_bPlace = 2
+abbrev pub lag_b_place : ℕ
+lag_b_place = 2
 
 abbrev pub step3_place : ℕ
 step3_place = 3

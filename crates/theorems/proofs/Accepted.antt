@@ -6,7 +6,7 @@ use Prim.Native.Nat.{ℕ, zero, suc, ◌^◌, ◌≤◌, ◌<◌}
 use native.Mathlib.Omega.{arith}
 use borrow.Author.Tests.{ltb-false, leb-false}
 use lib.Dec.{ltb, leb}
-use Rattle.tables.specs.Constants.{lag_aPlace, lag_bPlace, step1_place, step3_place, lag_code_max, step_code_max, gain_index_max, flags_max, train_lag_limit}
+use Rattle.tables.specs.Constants.{lag_a_place, lag_b_place, step1_place, step3_place, lag_code_max, step_code_max, gain_index_max, flags_max, train_lag_limit}
 use Rattle.excitation.specs.declared.Rate.{Rate}
 use Rattle.excitation.specs.declared.Rate.TheVariants.{High, Low}
 use Rattle.positions.specs.Positions.{pulses}
@@ -15,7 +15,7 @@ use Rattle.excitation.specs.declared.Subframe.{Subframe}
 use Rattle.excitation.specs.declared.Subframe.TheVariants.{Zero, One, Two, Three}
 use Rattle.reader.specs.Fields.{byte}
 use Rattle.record.specs.Record.{base_lag_of, gain_index_of, train, count, description}
-use Rattle.record.specs.Record.{flags as flags_of, signs as signsOf}
+use Rattle.record.specs.Record.{flags as flags_of, signs as signs_of}
 use Rattle.layout.specs.Layout.{fields_of}
 use Rattle.layout.specs.declared.LspForm.{LspForm}
 use Rattle.layout.specs.declared.LspForm.TheVariants.{Values, Index}
@@ -77,18 +77,18 @@ module _ (r : List ℕ) where
 -- ---- its codes
 
 pub record Codes (f : List ℕ) : Type 0 where
-  pub lag_a : byte f lag_aPlace ≤ lag_code_max
-  pub lag_b : byte f lag_bPlace ≤ lag_code_max
+  pub lag_a : byte f lag_a_place ≤ lag_code_max
+  pub lag_b : byte f lag_b_place ≤ lag_code_max
   pub step_a : byte f step1_place ≤ step_code_max
   pub step_b : byte f step3_place ≤ step_code_max
 
 pub codes : (rate : Rate) (f : List ℕ) → Passed rate f → Codes f
 codes rate f p =
-    let lags = neither (ltb lag_code_max (byte f lag_aPlace)) (ltb lag_code_max (byte f lag_bPlace)) p.lags in
+    let lags = neither (ltb lag_code_max (byte f lag_a_place)) (ltb lag_code_max (byte f lag_b_place)) p.lags in
     let steps = neither (ltb step_code_max (byte f step1_place)) (ltb step_code_max (byte f step3_place)) p.steps in
     record {
-      lag_a = ltb-false lag_code_max (byte f lag_aPlace) lags.0;
-      lag_b = ltb-false lag_code_max (byte f lag_bPlace) lags.1;
+      lag_a = ltb-false lag_code_max (byte f lag_a_place) lags.0;
+      lag_b = ltb-false lag_code_max (byte f lag_b_place) lags.1;
       step_a = ltb-false step_code_max (byte f step1_place) steps.0;
       step_b = ltb-false step_code_max (byte f step3_place) steps.1;
     }
@@ -125,6 +125,6 @@ module _ (f : List ℕ) (p : Passed High f) (k : Subframe) where
   pub accepted-description : Accepted (description f k)
   accepted-description = record {
     gain_index = ltb-false gain_index_max (gain_index_of High f k) (none_in (λ s. ltb gain_index_max (gain_index_of High f s)) p.gains k);
-    signs = leb-false (2 ^ pulses (count k)) (signsOf f k) (none_in (wrong_signs_in f) p.signs k);
+    signs = leb-false (2 ^ pulses (count k)) (signs_of f k) (none_in (wrong_signs_in f) p.signs k);
     base_lag = λ t. (omega arith, train-lag t);
   }

@@ -20,13 +20,13 @@ use Rattle.record.proofs.own_lag.Statement.{statement}
 use Rattle.record.proofs.own_lag.Tie as tie
 
 -- the step code of a subframe; that of an even one adds nothing
-abbrev stepCode : List ℕ → Subframe → ℕ
-stepCode r Zero = step_code_zero
-stepCode r One = byte r step1_place
-stepCode r Two = step_code_zero
-stepCode r Three = byte r step3_place
+abbrev step_code : List ℕ → Subframe → ℕ
+step_code r Zero = step_code_zero
+step_code r One = byte r step1_place
+step_code r Two = step_code_zero
+step_code r Three = byte r step3_place
 
-lag-is : (r : List ℕ) (s : Subframe) → pos (base_lag_of r s) +ℤ step (stepCode r s) ≡ lag r s
+lag-is : (r : List ℕ) (s : Subframe) → pos (base_lag_of r s) +ℤ step (step_code r s) ≡ lag r s
 lag-is r Zero = ap pos (add-zero (base_lag_of r Zero))
 lag-is r One = refl
 lag-is r Two = ap pos (add-zero (base_lag_of r Two))
@@ -67,12 +67,12 @@ module _ (c : tie.Joined-s) where
   abbrev code : ℕ
   code = c.match-s.code
 
-  code_is : (code ≡ stepCode r s) × (code < 256)
+  code_is : (code ≡ step_code r s) × (code < 256)
   code_is =
-      ⊎_elim (λ w. (w.code-is ∙ sym (ap (stepCode r) w.in-Zero.is), omega arith))
-      (⊎_elim (λ w. (w.code-is ∙ w.byte_field-code.ensures ∙ sym (ap (stepCode r) w.in-One.is), omega arith))
-      (⊎_elim (λ w. (w.code-is ∙ sym (ap (stepCode r) w.in-Two.is), omega arith))
-      (λ w. (w.code-is ∙ w.byte_field-code-in-Three.ensures ∙ sym (ap (stepCode r) w.in-Three.is), omega arith)))) c.match-s.branch-raw
+      ⊎_elim (λ w. (w.code-is ∙ sym (ap (step_code r) w.in-Zero.is), omega arith))
+      (⊎_elim (λ w. (w.code-is ∙ w.byte_field-code.ensures ∙ sym (ap (step_code r) w.in-One.is), omega arith))
+      (⊎_elim (λ w. (w.code-is ∙ sym (ap (step_code r) w.in-Two.is), omega arith))
+      (λ w. (w.code-is ∙ w.byte_field-code-in-Three.ensures ∙ sym (ap (step_code r) w.in-Three.is), omega arith)))) c.match-s.branch-raw
 
   base_read : Is w32 base (pos base)
   base_read = is-mag (pos base) (omega arith)
