@@ -1,10 +1,8 @@
--- What the type of a state tells of its fields, and what its bounds do.
-use mathlib.Core.Path.{◌≡◌, sym, ◌∙◌}
+-- What the bounds of a state tell of its fields.
+use mathlib.Core.Path.{◌≡◌}
 use mathlib.Core.Bool.{true}
-use mathlib.Core.List.{List, map}
-use Prim.Native.Nat.{ℕ, ◌≤◌}
+use Prim.Native.Nat.{◌≤◌}
 use lib.Dec.{T}
-use lib.ListN.{length, length-map}
 use lib.IntN.{ℤ, nat_abs}
 use lib.Signed.{non_neg}
 use mir.Syntax.{w16}
@@ -16,10 +14,6 @@ use Rattle.tables.specs.Constants.{last_base_lag_max, tap_sum_max, unvoiced_gain
 use Rattle.state.specs.State.{last_bounded, in_bounds}
 use Rattle.state.specs.declared.State.{State}
 use Rattle.state.proofs.Bounds.{AllLie, numbers_of}
-
--- the length of an array of numbers
-pub field-length : (xs : List ℤ) {n : ℕ} → length (map (λ (z : ℤ). z) xs) ≡ n → length xs ≡ n
-field-length xs e = sym (length-map xs (λ z. z)) ∙ e
 
 -- ---- of a state in bounds, the numbers that an erased frame narrows
 

@@ -7,7 +7,7 @@ use lib.IntN.{ℤ, pos}
 use lib.Signed.{◌≤ℤ◌}
 use Rattle.tables.specs.Constants.{unvoiced_gain_max}
 use Rattle.integers.specs.Limit.{limited_bounds}
-use Rattle.tables.specs.Rules.{gain-most}
+use Rattle.tables.proofs.Rules.{gain-most}
 use Rattle.excitation.specs.Excitation.{subframe_place, doubled_sum, tap_sum_of, unvoiced_gain}
 use Rattle.excitation.specs.declared.Subframe.{Subframe}
 use Rattle.excitation.specs.declared.Subframe.TheVariants.{Zero, One, Two, Three}

@@ -15,7 +15,7 @@ use Rattle.integers.specs.Signed.{natural}
 use Rattle.integers.specs.Linear.{mul_pos, line, line-mul, line-shr, line-fits}
 use Rattle.integers.specs.Saturation.{saturated-same}
 use Rattle.tables.specs.Tables.{cosines}
-use Rattle.tables.specs.Rules.{cosine_rule}
+use Rattle.tables.proofs.Rules.{cosine_rule}
 use Rattle.basicop.specs.Operators.{word16, add16, sub16, mult16, shl16}
 use Rattle.lpc.specs.Lpc.{cosine_between, cosine}
 

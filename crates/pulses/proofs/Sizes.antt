@@ -8,7 +8,7 @@ use lib.IntN.{ℤ, pos, neg_ℤ, nat_abs}
 use Rattle.tables.specs.Constants.{unvoiced_gain_max}
 use Rattle.integers.specs.Base.{Within}
 use Rattle.integers.specs.Bound.{abs_neg}
-use Rattle.tables.specs.Rules.{gain-most}
+use Rattle.tables.proofs.Rules.{gain-most}
 use Rattle.pulses.specs.Pulses.{size, signed_by, pulse}
 use Rattle.pulses.specs.declared.Description.{Description}
 

@@ -19,7 +19,8 @@ use Rattle.tables.specs.Constants.{kind_max, lsp_minimum, lsp_predictor, band0_s
 use Rattle.tables.specs.Tables.{mean_lsps}
 use Rattle.basicop.specs.Operators.{add16}
 use Rattle.codebooks.specs.Codebooks.{band0, band1, band2}
-use Rattle.codebooks.specs.Rules.{Codebook, band0_rule, band1_rule, band2_rule}
+use Rattle.codebooks.specs.Rules.{Codebook}
+use Rattle.codebooks.proofs.Rules.{band0_rule, band1_rule, band2_rule}
 use Rattle.lsp.specs.Lsps.{predicted, decoded_lsp, decoded}
 use Rattle.digits.specs.Digits.{image}
 use Rattle.stability.specs.Stability.{pass_to, any_to, passes, check_or_previous}

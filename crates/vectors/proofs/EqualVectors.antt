@@ -13,7 +13,7 @@ use lib.Seq.{ext_get_or}
 use Rattle.integers.specs.Base.{entry}
 use Rattle.integers.specs.Fill.{tabulate-at}
 use Rattle.tables.specs.Constants.{subframe_size}
-use Rattle.tables.specs.Rules.{gain_rule, gain_distinct}
+use Rattle.tables.proofs.Rules.{gain_rule, gain_distinct}
 use Rattle.positions.specs.Positions.{pulses, limit, slots}
 use Rattle.positions.specs.declared.Count.{Count}
 use Rattle.positions.specs.declared.Count.TheVariants.{Five, Six}

@@ -6,7 +6,7 @@ use mir.Syntax.{w32}
 use mir.Val.{SFits, of_z}
 use Rattle.integers.specs.Base.{Is}
 use Rattle.integers.specs.Expression.{is-result, is-add, is-quot, need_add, need_quot}
-use Rattle.tables.specs.Rules.{gain-most}
+use Rattle.tables.proofs.Rules.{gain-most}
 use Rattle.pulses.specs.Pulses.{doubled_gain}
 use Rattle.excitation.proofs.unvoiced_gain.Statement.{statement}
 use Rattle.excitation.proofs.unvoiced_gain.Tie as tie

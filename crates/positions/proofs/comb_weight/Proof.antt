@@ -3,7 +3,8 @@ use mathlib.Core.List.{List}
 use Prim.Native.Nat.{ℕ, ◌+◌, ◌-◌, ◌*◌}
 use native.Mathlib.Omega.{arith}
 use lib.ListN.{get_or}
-use Rattle.tables.specs.Rules.{choose, weight_rule}
+use Rattle.tables.specs.Rules.{choose}
+use Rattle.tables.proofs.Rules.{weight_rule}
 use Rattle.positions.proofs.comb_weight.Statement.{statement}
 use Rattle.positions.proofs.comb_weight.Tie as tie
 

@@ -6,7 +6,7 @@ use lib.ListN.{get_or, get_or-map, get_or-eq_default}
 use mir.Syntax.{w16}
 use mir.Val.{to_z, of_z}
 use Rattle.integers.specs.Signed.{read_back}
-use Rattle.tables.specs.Rules.{gain_rule}
+use Rattle.tables.proofs.Rules.{gain_rule}
 use Rattle.tables.specs.Tables.{gains}
 use Rattle.tables.proofs.spec_tables.fixed_codebook_gain.Statement.{statement}
 use Rattle.tables.proofs.spec_tables.fixed_codebook_gain.Tie as tie
