@@ -28,5 +28,5 @@ replay_to l gain x s = with_subframe x (subframe_place s) (replayed x (subframe_
 
 -- all four, from the stored tap sum and unvoiced gain, and the run with this frame
 unfoldable pub erased_excitation : Voicing → ℤ → ℤ → ℕ → List ℤ → List ℤ
-erased_excitation Unvoiced tap_sum_of gain run x = in_turn (noise_to (attenuated gain run) (start_word run)) x
-erased_excitation (Voiced lag) tap_sum_of gain run x = in_turn (replay_to (limited_lag (pos lag)) (attenuated tap_sum_of run)) x
+erased_excitation Unvoiced tap_sum gain run x = in_turn (noise_to (attenuated gain run) (start_word run)) x
+erased_excitation (Voiced lag) tap_sum gain run x = in_turn (replay_to (limited_lag (pos lag)) (attenuated tap_sum run)) x

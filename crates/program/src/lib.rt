@@ -6,8 +6,8 @@
 ghost use Rattle.std.specs.Prelude.{◌≡◌, true, List, ℕ};
 ghost use Rattle.lines.specs.Stream.{stream_after, finished, printed_tallies};
 
-use std::io::{Input, Read};
 use lines::Stream;
+use std::io::{Input, Read};
 
 // What is carried on, whether every write was done, and whether there may be more to read.
 #[derive(Clone, Copy)]

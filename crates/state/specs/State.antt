@@ -67,9 +67,9 @@ abbrev pub last_lag_bounded : ℤ → Bounded
 last_lag_bounded lag = record { value = lag; least = pos last_lag_min; most = pos last_lag_max }
 
 abbrev pub last_bounded : ℤ → ℤ → ℤ → List Bounded
-last_bounded lag2 tap_sum_of unvoiced =
+last_bounded lag2 tap_sum unvoiced =
     record { value = lag2; least = pos pitch_min; most = pos last_base_lag_max }
-    ∷ record { value = tap_sum_of; least = pos 0; most = pos tap_sum_max }
+    ∷ record { value = tap_sum; least = pos 0; most = pos tap_sum_max }
     ∷ record { value = unvoiced; least = pos 0; most = pos unvoiced_gain_max }
     ∷ []
 

@@ -6,14 +6,14 @@ use Rattle.integers.specs.Base.{every, entry}
 use Rattle.integers.specs.Natural.{le-or-lt}
 use Rattle.integers.specs.Table.{every-at, and_left, and_right}
 use Rattle.tables.specs.Tables.{cosines, gains, weights}
-use Rattle.tables.specs.Rules.{Cosine, Gain, first_index, choose}
+use Rattle.tables.specs.Rules.{CosineRule, GainRule, GainDistinct, GainMost, WeightRule, first_index, choose}
 
 -- ---- cosines
 
 cosine_test : ℕ → ℤ → Bool
 cosine_test k x = leb (nat_abs x) 16384 && leb (nat_abs (entry cosines ((k + 1) % 512) -ℤ x)) 201
 
-pub cosine_rule : (k : ℕ) → k < 512 → Cosine k (entry cosines k)
+pub cosine_rule : CosineRule
 unfolding cosines every cosine_test
 cosine_rule k h =
     let x = entry cosines k in
@@ -29,7 +29,7 @@ cosine_rule k h =
 gain_test : ℕ → ℕ → Bool
 gain_test k x = ltb 0 x && (leb x 6623 && eqb (first_index gains x) k)
 
-pub gain_rule : (k : ℕ) → k < 24 → Gain k (get_or gains k 0)
+pub gain_rule : GainRule
 unfolding gains every gain_test first_index
 gain_rule k h =
     let x = get_or gains k 0 in
@@ -41,11 +41,10 @@ gain_rule k h =
       indexed = eqb→eq (first_index gains x) k (and_right (leb x 6623) (eqb (first_index gains x) k) u);
     }
 
-pub gain_distinct : (i j : ℕ) → i < 24 → j < 24 → get_or gains i 0 ≡ get_or gains j 0 → i ≡ j
+pub gain_distinct : GainDistinct
 gain_distinct i j hi hj e = sym (gain_rule i hi).indexed ∙ ap (first_index gains) e ∙ (gain_rule j hj).indexed
 
--- no gain is above 6623, at any index
-pub gain-most : (k : ℕ) → get_or gains k 0 ≤ 6623
+pub gain-most : GainMost
 unfolding gains
 gain-most k = ⊎_elim (λ (h : 24 ≤ k). omega (arith, get_or-eq_default gains 0 h)) (λ (h : k < 24). (gain_rule k h).at_most) (le-or-lt 24 k)
 
@@ -58,7 +57,7 @@ binomial_at : (k : ℕ) → k < 180 → get_or weights k 0 ≡ choose (29 - k % 
 unfolding weights every weight_test choose
 binomial_at k h = eqb→eq (get_or weights k 0) (choose (29 - k % 30) (5 - k / 30)) (every-at weight_test weights tt k h 0)
 
-pub weight_rule : (m i : ℕ) → m < 6 → i < 30 → get_or weights (m * 30 + i) 0 ≡ choose (29 - i) (5 - m)
+pub weight_rule : WeightRule
 weight_rule m i hm hi =
     let a : (m * 30 + i) % 30 ≡ i = omega arith in
     let b : (m * 30 + i) / 30 ≡ m = omega arith in
