@@ -14,6 +14,16 @@ pub enum Subframe {
     Three,
 }
 
+impl Subframe {
+    // The subframes of a frame, in their order.
+    pub const ALL: [Subframe; tables::SUBFRAMES_PER_FRAME] = [
+        Subframe::Zero,
+        Subframe::One,
+        Subframe::Two,
+        Subframe::Three,
+    ];
+}
+
 // 6.3 or 5.3 kbit/s.
 #[derive(Clone, Copy)]
 pub enum Rate {

@@ -11,5 +11,6 @@ pub mod Saturation
 pub mod Limit
 pub mod Sum
 pub mod Fill
+pub mod FromFn
 pub mod Lent
 pub mod Table
