@@ -5,13 +5,26 @@ use mathlib.Core.List.{List}
 use Prim.Native.Nat.{ℕ, zero, suc, ◌+◌, ◌-◌, ◌<◌, ◌≤◌}
 use native.Mathlib.Omega.{arith}
 use borrow.Author.Tests.{eqb-true, eqb-false}
+use Rattle.std.specs.Prelude.{Some, None}
 use lib.Dec.{eqb}
 use lib.IntN.{ℤ}
 use Rattle.tables.specs.Constants.{stability_passes}
 use Rattle.stability.specs.declared.Outcome.TheVariants.{Untouched, Moved, Previous}
 use Rattle.stability.specs.Stability.{pass, pass_moves, any_short, passes, outcome_of, stabilised}
 use Rattle.stability.proofs.Passes.{turn, no_turn}
-use Rattle.stability.proofs.Gaps.{unmoved_spaced, spaced_same, outcome_is}
+use Rattle.stability.proofs.Gaps.{unmoved_spaced, outcome_is}
+
+-- ---- what a pass hands back
+
+pub none_moved : (b : Bool) (y : List ℤ) → None ≡ cond b (Some y) None → b ≡ false
+none_moved true y e = cc
+none_moved false y e = refl
+
+pub some_moved : (b : Bool) (x y : List ℤ) → Some x ≡ cond b (Some y) None → (b ≡ true) × (x ≡ y)
+some_moved true x y e = (refl, cc)
+some_moved false x y e = cc
+
+-- ---- the turns
 
 module _ (m : ℤ) (p : List ℤ) where
   -- q is what n passes, which all moved some, made of p
@@ -53,8 +66,8 @@ module _ (m : ℤ) (p : List ℤ) where
           by true z = sym (outcome_is m p (ap (pass_moves m) (sym (t.first (eqb-true n 0 z))) ∙ e) refl)
           by false z = sym (outcome_is m p (t.later (let k = eqb-false n 0 z in omega (arith, k))) met)
 
-      pub still_end : record { lsps = pass m q; outcome = cond (eqb n 0) Untouched Moved } ≡ stabilised m p
-      still_end = λ i. record { lsps = (spaced_same m q (unmoved_spaced m q e) ∙ sym all_passes) i; outcome = outcome_still i }
+      pub still_end : record { lsps = q; outcome = cond (eqb n 0) Untouched Moved } ≡ stabilised m p
+      still_end = λ i. record { lsps = sym all_passes i; outcome = outcome_still i }
 
     -- the last of the passes
     pub last_end : {b : Bool} → stability_passes ≤ n → any_short m q ≡ b → record { lsps = q; outcome = cond b Previous Moved } ≡ stabilised m p

@@ -1,104 +1,79 @@
 // LSPs: candidates stabilised, or else the previous ones kept, under the Rust's names (qdec.rs).
 #![tactic(auto)]
 
-ghost use Rattle.std.specs.Prelude.{◌≡◌, cond, ◌||◌, eqb, ◌<◌, ◌+ℤ◌, ◌-ℤ◌};
+ghost use Rattle.std.specs.Prelude.{◌≡◌, cond, if◌then◌else◌, eqb, ◌<◌, ◌+ℤ◌, ◌-ℤ◌};
 ghost use Rattle.std.specs.Int.Signed.{lt_z};
 ghost use Rattle.integers.specs.Base.{floor_div};
-ghost use Rattle.stability.specs.Stability.{short, spread, pass, pass_moves, any_short, stabilised, check_or_previous, outcome_code};
+ghost use Rattle.stability.specs.Stability.{spread, pass, pass_moves, any_short, stabilised, check_or_previous, outcome_code};
 ghost use Rattle.stability.specs.declared.Outcome.TheVariants.{Untouched, Moved};
 
 // What stabilising says of the candidates: no pair was moved; some were, and the gaps are then met; or the previous LSPs are
 // used.
-#[derive(Clone, Copy)]
+#[derive(Clone, Copy, PartialEq, Eq, Debug)]
 pub enum Outcome {
     Untouched,
     Moved,
     Previous,
 }
 
+// The codes by which outcomes are written down (docs/FORMAT.md).
+impl From<Outcome> for u8 {
+    ghost from_gives = { λ o n. n ≡ outcome_code o };
+
+    fn from(outcome: Outcome) -> u8 {
+        outcome as u8
+    }
+}
+
 // LSPs, and what was done to get them.
-#[derive(Clone, Copy)]
+#[derive(Clone, Copy, PartialEq, Eq, Debug)]
 pub struct Stabilised {
     pub lsps: [i16; 10],
     pub outcome: Outcome,
 }
 
-// A pass under way: the LSPs, and whether it moved some.
-#[derive(Clone, Copy)]
-struct Pass {
-    lsps: [i16; 10],
-    moved: bool,
-}
-
 fn is_short(a: i16, b: i16, minimum: i16) -> bool
     ensures { result ≡ lt_z (b -ℤ a) minimum }
 {
-    (b as i32 - a as i32) < (minimum as i32)
+    i32::from(b) - i32::from(a) < i32::from(minimum)
 }
 
 fn midpoint(a: i16, b: i16) -> i16
     ensures { result ≡ floor_div (a +ℤ b) 2 }
 {
-    ((a as i32 + b as i32) >> 1) as i16
+    ((i32::from(a) + i32::from(b)) >> 1) as i16
 }
 
-fn moved_pair(p: [i16; 10], j: usize, minimum: i16) -> [i16; 10]
+fn moved_pair(mut p: [i16; 10], j: usize, minimum: i16) -> [i16; 10]
     requires { j < 9 }
     ensures { result ≡ spread minimum p j }
 {
-    let mut q = p;
     let avg = midpoint(p[j], p[j + 1]);
     let half = minimum / 2;
-    q[j] = basicop::sub(avg, half);
-    q[j + 1] = basicop::add(avg, half);
-    q
+    p[j] = basicop::sub(avg, half);
+    p[j + 1] = basicop::add(avg, half);
+    p
 }
 
-// The pair at j, in its turn of the pass.
-fn pair(s: Pass, j: usize, minimum: i16) -> Pass
-    requires { j < 9 }
-    ensures lsps_value { result.lsps ≡ cond (short minimum s.lsps j) (spread minimum s.lsps j) s.lsps }
-    ensures moved_value { result.moved ≡ (s.moved || short minimum s.lsps j) }
+// The LSPs after a pass that moved some, and None where it moved none.
+fn one_pass(p: [i16; 10], minimum: i16) -> Option<[i16; 10]>
+    ensures { result ≡ (if pass_moves minimum p then Some (pass minimum p) else None) }
 {
-    let p = s.lsps;
-    if is_short(p[j], p[j + 1], minimum) {
-        let q = moved_pair(p, j, minimum);
-        Pass {
-            lsps: q,
-            moved: true,
+    let mut lsps = p;
+    let mut moved = false;
+    for j in 0..tables::LSP_GAPS {
+        if is_short(lsps[j], lsps[j + 1], minimum) {
+            lsps = moved_pair(lsps, j, minimum);
+            moved = true;
         }
-    } else {
-        s
     }
-}
-
-fn one_pass(p: [i16; 10], minimum: i16) -> Pass
-    ensures lsps_value { result.lsps ≡ pass minimum p }
-    ensures moved_value { result.moved ≡ pass_moves minimum p }
-{
-    let mut s = Pass {
-        lsps: p,
-        moved: false,
-    };
-    let mut j: usize = 0;
-    while j < tables::LSP_GAPS {
-        let t = pair(s, j, minimum);
-        s = t;
-        j += 1;
-    }
-    s
+    moved.then_some(lsps)
 }
 
 fn any_short(p: [i16; 10], minimum: i16) -> bool
     ensures { result ≡ any_short minimum p }
 {
-    let mut found = false;
-    let mut j: usize = 0;
-    while j < tables::LSP_GAPS {
-        found = found || is_short(p[j], p[j + 1], minimum);
-        j += 1;
-    }
-    found
+    (0..tables::LSP_GAPS).any(|j| is_short(p[j], p[j + 1], minimum))
 }
 
 // What a pass without moves says of the candidates, after n passes with moves.
@@ -116,27 +91,24 @@ fn outcome_after(n: usize) -> Outcome
 pub fn lsp_stability(p: [i16; 10], minimum: i16) -> Stabilised
     ensures { result ≡ stabilised minimum p }
 {
-    let mut q = p;
-    let mut n: usize = 0;
-    while n < tables::LSP_STABILITY_MAX_ITERATIONS {
-        let s = one_pass(q, minimum);
-        q = s.lsps;
-        if !s.moved {
+    let mut lsps = p;
+    for n in 0..tables::LSP_STABILITY_MAX_ITERATIONS {
+        let Some(moved) = one_pass(lsps, minimum) else {
             return Stabilised {
-                lsps: q,
+                lsps,
                 outcome: outcome_after(n),
             };
-        }
-        n += 1;
+        };
+        lsps = moved;
     }
-    if any_short(q, minimum) {
+    if any_short(lsps, minimum) {
         return Stabilised {
-            lsps: q,
+            lsps,
             outcome: Outcome::Previous,
         };
     }
     Stabilised {
-        lsps: q,
+        lsps,
         outcome: Outcome::Moved,
     }
 }
@@ -145,23 +117,8 @@ pub fn lsp_check_or_previous(cand: [i16; 10], prev: [i16; 10], minimum: i16) -> 
     ensures { result ≡ check_or_previous minimum cand prev }
 {
     let s = lsp_stability(cand, minimum);
-    let outcome = s.outcome;
-    match outcome {
-        Outcome::Untouched => s,
-        Outcome::Moved => s,
-        Outcome::Previous => Stabilised {
-            lsps: prev,
-            outcome: outcome,
-        },
-    }
-}
-
-pub fn outcome_code(outcome: Outcome) -> u8
-    ensures { result ≡ outcome_code outcome }
-{
-    match outcome {
-        Outcome::Untouched => 0,
-        Outcome::Moved => 1,
-        Outcome::Previous => 2,
+    match s.outcome {
+        Outcome::Untouched | Outcome::Moved => s,
+        Outcome::Previous => Stabilised { lsps: prev, ..s },
     }
 }
