@@ -16,13 +16,7 @@ fn weighed(wp: i16, wc: i16, prev: i16, cur: i16) -> i16
 fn blended(wp: i16, wc: i16, prev: [i16; 10], cur: [i16; 10]) -> [i16; 10]
     ensures { result ≡ tabulate (λ i. rounded16 (mac32 (mult32 (entry prev i) wp) (entry cur i) wc)) 10 }
 {
-    let mut out = [0i16; 10];
-    let mut i: usize = 0;
-    while i < tables::LPC_ORDER {
-        out[i] = weighed(wp, wc, prev[i], cur[i]);
-        i += 1;
-    }
-    out
+    std::array::from_fn(|i| weighed(wp, wc, prev[i], cur[i]))
 }
 
 pub fn lsp_interpolate(k: usize, prev: [i16; 10], cur: [i16; 10]) -> [i16; 10]
@@ -68,24 +62,12 @@ pub fn lsp_decode(row0: u8, row1: u8, row2: u8, prev: [i16; 10]) -> [i16; 10]
 {
     let dc = tables::lsp_dc();
     let rows = codebooks::lsp_codebook_rows(row0, row1, row2);
-    let mut out = [0i16; 10];
-    let mut i: usize = 0;
-    while i < tables::LPC_ORDER {
-        out[i] = decoded_lsp(dc[i], prev[i], rows[i]);
-        i += 1;
-    }
-    out
+    std::array::from_fn(|i| decoded_lsp(dc[i], prev[i], rows[i]))
 }
 
 pub fn lsp_extrapolate(prev: [i16; 10]) -> [i16; 10]
     ensures { result ≡ extrapolated prev }
 {
     let dc = tables::lsp_dc();
-    let mut out = [0i16; 10];
-    let mut i: usize = 0;
-    while i < tables::LPC_ORDER {
-        out[i] = predicted_lsp(tables::LSP_PREDICTOR_BE_Q15, dc[i], prev[i]);
-        i += 1;
-    }
-    out
+    std::array::from_fn(|i| predicted_lsp(tables::LSP_PREDICTOR_BE_Q15, dc[i], prev[i]))
 }
