@@ -1,11 +1,9 @@
 -- Position codes (document 01, "Pulses"; the Rust's fcbk_unpk_positions, which names §2.17 of G.723.1): the slots of a code, and what it is read as.
-use Rattle.std.specs.Prelude.{true, false, cond, List, [], ◌∷◌, ℕ, zero, suc, ◌+◌, ◌-◌, ◌^◌, ltb}
+use Rattle.std.specs.Prelude.{true, false, cond, Option, Some, None, List, [], ◌∷◌, ℕ, zero, suc, ◌+◌, ◌-◌, ◌^◌, ltb}
 use Rattle.tables.specs.Constants.{grid_slots, pulses_odd, pulses_even, position_limit_five, position_limit_six}
 use Rattle.tables.specs.Rules.{choose}
 use Rattle.positions.specs.declared.Count.{Count}
 use Rattle.positions.specs.declared.Count.TheVariants.{Five, Six}
-use Rattle.positions.specs.declared.Slots.{Slots}
-use Rattle.positions.specs.declared.Slots.TheVariants.{Of, None}
 
 -- how many pulses
 abbrev pub pulses : Count → ℕ
@@ -33,5 +31,5 @@ bits [] = 0
 bits (p ∷ ps) = 2 ^ p + bits ps
 
 -- what a code is read as: the bits of its slots, and none at the limit or above
-unfoldable pub positions : Count → ℕ → Slots
-positions n c = cond (ltb c (limit n)) (Of (bits (slots n c))) None
+unfoldable pub positions : Count → ℕ → Option ℕ
+positions n c = cond (ltb c (limit n)) (Some (bits (slots n c))) None

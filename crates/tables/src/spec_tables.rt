@@ -52,7 +52,7 @@ const LSP_DC_PREDICTED_FREQ_Q15: [i16; 10] = [
 ];
 
 // Weights of position codes: six rows of thirty (§2.13; used in §2.15, §2.17).
-const MPMLQ_COMBINATORIAL: [u32; 180] = [
+static MPMLQ_COMBINATORIAL: [u32; 180] = [
     118755, 98280, 80730, 65780, 53130, 42504, 33649, 26334, 20349, 15504, 11628, 8568, 6188, 4368,
     3003, 2002, 1287, 792, 462, 252, 126, 56, 21, 6, 1, 0, 0, 0, 0, 0, 23751, 20475, 17550, 14950,
     12650, 10626, 8855, 7315, 5985, 4845, 3876, 3060, 2380, 1820, 1365, 1001, 715, 495, 330, 210,
@@ -102,11 +102,12 @@ pub fn fixed_codebook_gain(index: u8) -> i16
     }
 }
 
-// All of them at once, as the cosines: a walk reads up to thirty weights.
-pub fn mpmlq_weights() -> [u32; 180]
-    ensures { result ≡ weights }
+// Lent: a walk reads up to thirty weights.
+#[tactic(auto, unfolding(crate::specs::Tables::weights))]
+pub fn mpmlq_weights() -> &'static [u32; 180]
+    ensures { result.now ≡ weights }
 {
-    MPMLQ_COMBINATORIAL
+    &MPMLQ_COMBINATORIAL
 }
 
 pub fn postfilter_zero() -> [i16; 10]

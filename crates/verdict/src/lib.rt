@@ -8,18 +8,14 @@ use numbers::Refusal;
 use stability::Outcome;
 
 // Accepted, with what was done to the candidate LSPs of the frame, or refused.
-#[derive(Clone, Copy)]
-pub enum Verdict {
-    Accepted(Outcome),
-    Refused(Refusal),
-}
+pub type Verdict = Result<Outcome, Refusal>;
 
 // Document 01's number; 0 where the record is accepted.
 pub fn verdict_number(v: Verdict) -> u8
     ensures { result ≡ number_of v }
 {
     match v {
-        Verdict::Accepted(_) => 0,
-        Verdict::Refused(n) => numbers::refusal_number(n),
+        Ok(_) => 0,
+        Err(n) => u8::from(n),
     }
 }

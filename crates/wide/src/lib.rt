@@ -4,20 +4,22 @@
 ghost use Rattle.std.specs.Prelude.{◌≡◌, ◌*◌, ◌%◌, ◌^◌, nat_lt};
 ghost use Rattle.wide.specs.Value.{value};
 
-#[derive(Clone, Copy)]
+// Two words and no u128: every product is made in `half_product`, of two halves of words.
+#[derive(Clone, Copy, PartialEq, Eq, PartialOrd, Ord, Debug)]
 pub struct Wide {
     pub hi: u64,
     pub lo: u64,
 }
 
-// The product of two halves of words. Every product of this crate is made here.
+// The product of two halves of words.
 pub fn half_product(a: u32, b: u32) -> u64
     ensures { result ≡ a * b }
 {
-    a as u64 * b as u64
+    u64::from(a) * u64::from(b)
 }
 
 // The product of two words.
+#[tactic(auto, using(crate::proofs::Columns::by_digits))]
 pub fn product(a: u64, b: u64) -> Wide
     ensures { value result ≡ a * b }
 {
@@ -42,7 +44,7 @@ pub fn times(a: Wide, b: u64) -> Wide
     let p = product(a.lo, b);
     let q = product(a.hi, b);
     Wide {
-        hi: std::num::wrapping_add_u64(p.hi, q.lo),
+        hi: p.hi.wrapping_add(q.lo),
         lo: p.lo,
     }
 }
@@ -51,32 +53,22 @@ pub fn times(a: Wide, b: u64) -> Wide
 pub fn shift_left(a: Wide, n: u32) -> Wide
     ensures { value result ≡ value a * 2 ^ n % 2 ^ 128 }
 {
-    if n == 0 {
-        return a;
-    }
-    if n < 64 {
-        return Wide {
+    match n {
+        0 => a,
+        1..64 => Wide {
             hi: (a.hi << n) + (a.lo >> (64 - n)),
             lo: a.lo << n,
-        };
-    }
-    if n < 128 {
-        return Wide {
+        },
+        64..128 => Wide {
             hi: a.lo << (n - 64),
             lo: 0,
-        };
+        },
+        _ => Wide { hi: 0, lo: 0 },
     }
-    Wide { hi: 0, lo: 0 }
 }
 
 pub fn less(a: Wide, b: Wide) -> bool
     ensures { result ≡ nat_lt (value a) (value b) }
 {
-    if a.hi < b.hi {
-        return true;
-    }
-    if b.hi < a.hi {
-        return false;
-    }
-    a.lo < b.lo
+    a < b
 }

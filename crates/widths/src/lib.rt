@@ -2,56 +2,51 @@
 // state, as in the Rust's QSynthesis (qdec.rs), and 16 in a frame.
 #![tactic(auto)]
 
-ghost use Rattle.std.specs.Prelude.{◌≡◌};
+ghost use Rattle.std.specs.Prelude.{◌≡◌, length};
 ghost use Rattle.widths.specs.Widths.{history_after, narrowed};
+
+// N values in 16 bits: those of `xs`, then zeros.
+pub fn narrow<const N: usize>(xs: &[i32]) -> [i16; N]
+    ensures { result ≡ narrowed xs.now N }
+{
+    std::array::from_fn(|i| if i < xs.len() {
+        basicop::saturate(xs[i])
+    } else {
+        0
+    })
+}
+
+// N values in 32 bits.
+pub fn widen<const N: usize>(xs: &[i16]) -> [i32; N]
+    requires { length xs.now ≡ N }
+    ensures { result ≡ xs.now }
+{
+    std::array::from_fn(|i| i32::from(xs[i]))
+}
 
 // The signal of a frame before its excitation, in 16 bits.
 pub fn frame_signal(exc_hist: [i32; 146]) -> [i16; 386]
     ensures { result ≡ narrowed exc_hist 386 }
 {
-    let mut x = [0i16; 386];
-    let mut i: usize = 0;
-    while i < tables::EXC_HIST {
-        x[i] = basicop::saturate(exc_hist[i]);
-        i += 1;
-    }
-    x
+    narrow(&exc_hist)
 }
 
 // The history after a frame.
 pub fn history_after(signal: &[i16; 386]) -> [i32; 146]
     ensures { result ≡ history_after signal.now }
 {
-    let mut h = [0i32; 146];
-    let mut i: usize = 0;
-    while i < tables::EXC_HIST {
-        h[i] = signal[tables::FRAME_SIZE_SAMPLES + i] as i32;
-        i += 1;
-    }
-    h
+    widen(&signal[tables::FRAME_SIZE_SAMPLES..])
 }
 
 // The synthesis memory in 16 bits, and back.
 pub fn narrow_memory(syn_mem: [i32; 10]) -> [i16; 10]
     ensures { result ≡ narrowed syn_mem 10 }
 {
-    let mut m = [0i16; 10];
-    let mut i: usize = 0;
-    while i < tables::LPC_ORDER {
-        m[i] = basicop::saturate(syn_mem[i]);
-        i += 1;
-    }
-    m
+    narrow(&syn_mem)
 }
 
 pub fn widen_memory(mem: [i16; 10]) -> [i32; 10]
     ensures { result ≡ mem }
 {
-    let mut m = [0i32; 10];
-    let mut j: usize = 0;
-    while j < tables::LPC_ORDER {
-        m[j] = mem[j] as i32;
-        j += 1;
-    }
-    m
+    widen(&mem)
 }
