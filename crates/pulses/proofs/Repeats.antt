@@ -1,9 +1,9 @@
 -- Laws of `repeats`, and of the loop that adds a pulse at p and again whole steps after it.
-use mathlib.Core.Path.{◌≡◌, refl, sym, ap, ◌∙◌}
+use mathlib.Core.Path.{◌≡◌, refl, sym, ap, ◌∙◌, subst}
 use mathlib.Core.Bool.{Bool, true, false, cond, ◌&&◌, and-false}
 use mathlib.Core.List.{List}
 use mathlib.Core.Logic.{⊎_elim}
-use Prim.Native.Nat.{ℕ, ◌+◌, ◌-◌, ◌%◌, ◌≤◌, ◌<◌}
+use Prim.Native.Nat.{ℕ, ◌+◌, ◌-◌, ◌*◌, ◌%◌, ◌≤◌, ◌<◌}
 use native.Mathlib.Nat.{eq-or-lt_of_le, zero-mod, mod-add-mod, mod-eq_of_lt, add-mod_right}
 use native.Mathlib.Omega.{arith}
 use borrow.Author.Tests.{lt-ltb, le-ltb, le-leb, lt-leb, eq-eqb, ne_eqb}
@@ -11,7 +11,12 @@ use lib.Dec.{ltb, eqb}
 use lib.IntN.{ℤ, pos, ◌+ℤ◌, +ℤ_idr}
 use lib.ListN.{length, set, length-set}
 use lib.Seq.{get_or-set_same, get_or-set_other, ext_get_or}
-use Rattle.integers.specs.Base.{entry, tabulate}
+use mir.Syntax.{w32}
+use mir.Val.{SFits, to_z, of_z}
+use mir.Facts.{to_z-of_z}
+use Rattle.tables.specs.Constants.{unvoiced_gain_max}
+use Rattle.integers.specs.Base.{entry, tabulate, Within, AllWithin}
+use Rattle.integers.specs.Bound.{within-add, fits-within}
 use Rattle.integers.specs.Natural.{le-or-lt}
 use Rattle.integers.specs.Fill.{tabulate-at, tabulate-length}
 use Rattle.pulses.specs.Pulses.{repeats, period, reaches}
@@ -119,8 +124,29 @@ module _ {v : List ℤ} {amp : ℤ} {p step : ℕ} where
             (λ (n : i < j). at_earlier i k n) (le-or-lt j i);
       }
 
-    pub repeating_end : 60 ≤ j → out ≡ tabulate (λ i. entry v i +ℤ cond (repeats step p i) amp (pos 0)) 60
-    repeating_end h =
-        let f : ℕ → ℤ = λ i. entry v i +ℤ cond (repeats step p i) amp (pos 0) in
-        ext_get_or (pos 0) out (tabulate f 60) (r.len ∙ sym (tabulate-length f 60))
-        (λ i k. let l : i < 60 = omega (arith, r.len) in r.at i l ∙ below v amp p step i j (omega arith) ∙ sym (tabulate-at f 60 i (pos 0) l))
+-- ---- the loop of the code, which reads and writes 32 bits: five pulses at most are there before
+
+module _ {v : List ℤ} {amp : ℤ} {p step : ℕ} {out : List ℤ} {j : ℕ} (r : Repeating v (to_z w32 (of_z w32 amp)) p step out j) where
+  kept : Within unvoiced_gain_max amp → to_z w32 (of_z w32 amp) ≡ amp
+  kept w = to_z-of_z {w = w32} (fits-within w tt)
+
+  module _ (all : AllWithin (5 * unvoiced_gain_max) v) (w : Within unvoiced_gain_max amp) (h : j < 60) where
+    -- the sample is still v's
+    still : to_z w32 (of_z w32 (entry out j)) ≡ entry v j
+    still =
+        let e = repeating_later r j (omega arith) h in
+        ap (λ (z : ℤ). to_z w32 (of_z w32 z)) e ∙ to_z-of_z {w = w32} (fits-within (all.at j) tt)
+
+    pub sum_fits : SFits w32 (to_z w32 (of_z w32 (entry out j)) +ℤ to_z w32 (of_z w32 amp))
+    sum_fits = subst (SFits w32) (sym (λ i. still i +ℤ kept w i)) (fits-within (within-add (all.at j) w) tt)
+
+    pub repeating_sum : 0 < step
+        → Repeating v (to_z w32 (of_z w32 amp)) p step (set out j (to_z w32 (of_z w32 (to_z w32 (of_z w32 (entry out j)) +ℤ to_z w32 (of_z w32 amp))))) (j + step)
+    repeating_sum s = repeating_next r h s (to_z-of_z {w = w32} sum_fits ∙ (λ i. still i +ℤ to_z w32 (of_z w32 amp)))
+
+  pub repeating_end : Within unvoiced_gain_max amp → 60 ≤ j → out ≡ tabulate (λ i. entry v i +ℤ cond (repeats step p i) amp (pos 0)) 60
+  repeating_end w h =
+      let f : ℕ → ℤ = λ i. entry v i +ℤ cond (repeats step p i) (to_z w32 (of_z w32 amp)) (pos 0) in
+      ext_get_or (pos 0) out (tabulate f 60) (r.len ∙ sym (tabulate-length f 60))
+      (λ i k. let l : i < 60 = omega (arith, r.len) in r.at i l ∙ below v (to_z w32 (of_z w32 amp)) p step i j (omega arith) ∙ sym (tabulate-at f 60 i (pos 0) l))
+      ∙ (λ t. tabulate (λ i. entry v i +ℤ cond (repeats step p i) (kept w t) (pos 0)) 60)

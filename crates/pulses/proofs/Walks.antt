@@ -8,6 +8,7 @@ use native.Mathlib.Omega.{arith}
 use lib.Dec.{T, eqb}
 use lib.ListN.{length, get_or}
 use borrow.Author.Tests.{eq-eqb, ne_eqb}
+use mir.Val.{bool_byte}
 use Rattle.integers.specs.Natural.{le-or-lt}
 use Rattle.tables.specs.Rules.{choose}
 use Rattle.positions.specs.Positions.{pulses, limit, walk, slots}
@@ -125,6 +126,11 @@ pub slots-code : (n : Count) (c e : ℕ) → c < limit n → e < limit n → slo
 slots-code n c e hc he p = sym (slots-rank n c hc) ∙ ap (rank 30) p ∙ slots-rank n e he
 
 -- ---- the places of the pulses: they ascend, and lie in the subframe
+
+-- the grid bit as a number
+pub grid_bit : (g : Bool) → bool_byte g ≡ cond g 1 0
+grid_bit true = refl
+grid_bit false = refl
 
 pub grid-most : (g : Bool) → cond g 1 0 ≤ 1
 grid-most true = omega arith

@@ -1,16 +1,16 @@
 // Pulses: the vector of a pulse description, under the Rust's names (qdec.rs).
 #![tactic(auto)]
 
-ghost use Rattle.std.specs.Prelude.{◌≡◌, cond, ◌+◌, ◌*◌, ◌^◌, ◌<◌, max, pos, ◌+ℤ◌};
+ghost use Rattle.std.specs.Prelude.{◌≡◌, cond, ◌*◌, ◌<◌, max, pos, ◌+ℤ◌};
 ghost use Rattle.integers.specs.Base.{entry, tabulate, Within, AllWithin};
 ghost use Rattle.tables.specs.Constants.{unvoiced_gain_max};
 ghost use Rattle.positions.specs.Positions.{limit, slots, bits};
 ghost use Rattle.pulses.specs.Pulses.{doubled_gain, signed_by, repeats, vector};
 
-use positions::{Count, Slots};
+use positions::Count;
 
 // A pulse description (document 01, "Pulses").
-#[derive(Clone, Copy)]
+#[derive(Clone, Copy, PartialEq, Eq, Debug)]
 pub struct Description {
     pub count: Count,
     pub train: bool,
@@ -25,7 +25,7 @@ pub struct Description {
 pub fn doubled_gain(index: u8) -> i32
     ensures { result ≡ pos (doubled_gain index) }
 {
-    2 * (tables::fixed_codebook_gain(index) as i32)
+    2 * i32::from(tables::fixed_codebook_gain(index))
 }
 
 // A pulse of that size, by its sign bit.
@@ -41,26 +41,23 @@ fn with_sign(size: i32, signs: u8, b: usize) -> i32
 fn pulse_step(train: bool, lag: u32) -> usize
     ensures { result ≡ cond train (max lag 1) 60 }
 {
-    if !train {
-        return tables::SUBFRAME_SIZE;
+    if train {
+        lag.max(1) as usize
+    } else {
+        tables::SUBFRAME_SIZE
     }
-    if lag == 0 { 1 } else { lag as usize }
 }
 
-// v and a pulse at sample p, repeated. The largest doubled gain is 13246, and five pulses at most are there before.
-fn add_pulse(v: [i32; 60], amp: i32, p: usize, step: usize) -> [i32; 60]
-    requires step_nonzero { (0 < step) × (step < 2 ^ 32) }
-    requires all_within { AllWithin (5 * unvoiced_gain_max) v }
+// Adds a pulse at sample p, repeated, to v. The largest doubled gain is 13246, and five pulses at most are there before.
+fn add_pulse(v: &mut [i32; 60], amp: i32, p: usize, step: usize)
+    requires step_nonzero { 0 < step }
+    requires all_within { AllWithin (5 * unvoiced_gain_max) v.old }
     requires within { Within unvoiced_gain_max amp }
-    ensures { result ≡ tabulate (λ j. entry v j +ℤ cond (repeats step p j) amp (pos 0)) 60 }
+    ensures { v.new ≡ tabulate (λ j. entry v.old j +ℤ cond (repeats step p j) amp (pos 0)) 60 }
 {
-    let mut out = v;
-    let mut j = p;
-    while j < tables::SUBFRAME_SIZE {
-        out[j] = out[j] + amp;
-        j += step;
+    for j in (p..tables::SUBFRAME_SIZE).step_by(step) {
+        v[j] += amp;
     }
-    out
 }
 
 // The vector of d from the bits of its slots. Pulses are added from the first slot on, so the sign bits go down.
@@ -71,21 +68,15 @@ fn add_pulses(d: Description, found: u32) -> [i32; 60]
 {
     let size = doubled_gain(d.gain_index);
     let step = pulse_step(d.train, d.base_lag);
-    let grid = if d.grid { 1usize } else { 0usize };
-    let mut v = [0i32; 60];
-    let mut rest = found;
-    let n = d.count;
-    let mut left = positions::pulse_count(n);
-    let mut slot: usize = 0;
-    while slot < tables::MPMLQ_GRID_SLOTS {
-        if rest % 2 == 1 {
+    let grid = usize::from(d.grid);
+    let mut v = [0; 60];
+    let mut left = d.count.pulses();
+    for slot in 0..tables::MPMLQ_GRID_SLOTS {
+        if (found >> slot) % 2 == 1 {
             left -= 1;
             let amp = with_sign(size, d.signs, left);
-            let w = add_pulse(v, amp, 2 * slot + grid, step);
-            v = w;
+            add_pulse(&mut v, amp, 2 * slot + grid, step);
         }
-        rest = rest / 2;
-        slot += 1;
     }
     v
 }
@@ -94,9 +85,8 @@ fn add_pulses(d: Description, found: u32) -> [i32; 60]
 pub fn mpmlq_fixed_vector(d: Description) -> [i32; 60]
     ensures { result ≡ vector d }
 {
-    let n = d.count;
-    let Slots::Of(found) = positions::fcbk_unpk_positions(d.code, n) else {
-        return [0i32; 60];
+    let Some(found) = positions::fcbk_unpk_positions(d.code, d.count) else {
+        return [0; 60];
     };
     add_pulses(d, found)
 }
