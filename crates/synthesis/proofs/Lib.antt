@@ -3,3 +3,4 @@ pub mod Fits
 pub mod Memories
 pub mod Samples
 pub mod Bounds
+pub mod Inputs
