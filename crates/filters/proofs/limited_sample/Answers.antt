@@ -1,12 +1,18 @@
-use mir.Syntax.{w16, w64}
-use Rattle.integers.specs.Saturation.{arm_above, arm_below, arm_between}
+use Rattle.std.specs.Prelude.{◌≡◌, ℕ, ℤ, pos, negsuc}
+use Rattle.std.specs.Int.{int_max, int_min, w16, w64}
+use Rattle.std.proofs.Common.{ap, ◌∙◌, arith, to_z-of_z}
+use Rattle.std.proofs.lemmas.Bool.Decides.{nat_tests}
+use Rattle.integers.specs.Base.{saturated}
+use Rattle.integers.specs.Saturation.{saturated-fits}
+use Rattle.integers.specs.Expression.{is-result, is-cast}
 use Rattle.filters.proofs.limited_sample.Goals as goal
 
-pub returns-then-q-gt32767 : goal.returns-then-q-gt32767
-returns-then-q-gt32767 c = arm_above w64 w16 32767 tt c.ranges.q c.if-q-gt32767.true
+clamped : (M : ℕ) (z : ℤ) → int_max (negsuc M) (int_min z (pos M)) ≡ saturated M z
+unfolding saturated
+clamped M (pos n) = grind (arith, nat_tests)
+clamped M (negsuc n) = grind (arith, nat_tests)
 
-pub returns-then-q-ltminus32768 : goal.returns-then-q-ltminus32768
-returns-then-q-ltminus32768 c = arm_below w64 w16 32767 tt c.ranges.q c.if-q-ltminus32768.true
-
-pub returns-else-q-ltminus32768 : goal.returns-else-q-ltminus32768
-returns-else-q-ltminus32768 c = arm_between w64 w16 32767 tt c.ranges.q c.if-q-gt32767.false c.if-q-ltminus32768.false
+pub returns : goal.returns
+returns c =
+    let nearest = c.clamp.ensures.value ∙ clamped 32767 _ ∙ ap (saturated 32767) (to_z-of_z c.ranges.q) in
+    (is-cast (is-result w64 c.clamp.result c.clamp.type_inv nearest) (saturated-fits {w = w16} 32767 c.args.q tt)).is
