@@ -6,7 +6,7 @@ ghost use Rattle.std.specs.Prelude.{◌≡◌, pos, ◌+ℤ◌};
 ghost use Rattle.basicop.specs.Operators.{word16};
 ghost use Rattle.excitation.specs.Excitation.{subframe_place, with_subframe, limited_sum, tap_sum_of, unvoiced_gain};
 
-#[derive(Clone, Copy)]
+#[derive(Clone, Copy, PartialEq, Eq, Debug)]
 pub enum Subframe {
     Zero,
     One,
@@ -25,31 +25,17 @@ impl Subframe {
 }
 
 // 6.3 or 5.3 kbit/s.
-#[derive(Clone, Copy)]
+#[derive(Clone, Copy, PartialEq, Eq, Debug)]
 pub enum Rate {
     High,
     Low,
 }
 
-// The places of the subframes in the signal, after the history.
-const PLACE_0: usize = tables::EXC_HIST;
-
-const PLACE_1: usize = PLACE_0 + tables::SUBFRAME_SIZE;
-
-const PLACE_2: usize = PLACE_1 + tables::SUBFRAME_SIZE;
-
-const PLACE_3: usize = PLACE_2 + tables::SUBFRAME_SIZE;
-
 // The place of a subframe's first sample in the signal.
 pub fn subframe_place(s: Subframe) -> usize
     ensures { result ≡ subframe_place s }
 {
-    match s {
-        Subframe::Zero => PLACE_0,
-        Subframe::One => PLACE_1,
-        Subframe::Two => PLACE_2,
-        Subframe::Three => PLACE_3,
-    }
+    tables::EXC_HIST + tables::SUBFRAME_SIZE * s as usize
 }
 
 // A sample of the adaptive part and one of the fixed vector, limited to 16 bits.
@@ -63,27 +49,16 @@ fn sum_sample(u: i32, v: i32) -> i16
 pub fn excitation_sum(u: [i32; 60], v: [i32; 60]) -> [i16; 60]
     ensures { result ≡ limited_sum u v }
 {
-    let mut e = [0i16; 60];
-    let mut n: usize = 0;
-    while n < tables::SUBFRAME_SIZE {
-        e[n] = sum_sample(u[n], v[n]);
-        n += 1;
-    }
-    e
+    std::array::from_fn(|n| sum_sample(u[n], v[n]))
 }
 
 // The signal with a subframe's excitation at its place. Where the Rust moves its history on, the place moves on here.
-pub fn push_excitation(signal: [i16; 386], s: Subframe, e: [i16; 60]) -> [i16; 386]
+pub fn push_excitation(mut signal: [i16; 386], s: Subframe, e: [i16; 60]) -> [i16; 386]
     ensures { result ≡ with_subframe signal (subframe_place s) e }
 {
     let p = subframe_place(s);
-    let mut x = signal;
-    let mut n: usize = 0;
-    while n < tables::SUBFRAME_SIZE {
-        x[p + n] = e[n];
-        n += 1;
-    }
-    x
+    signal[p..p + tables::SUBFRAME_SIZE].copy_from_slice(&e);
+    signal
 }
 
 // The tap sum that is stored for erased frames.
@@ -91,26 +66,15 @@ pub fn tap_sum(taps: [i16; 5]) -> i32
     ensures { result ≡ tap_sum_of taps }
 {
     let mut sum: i32 = 0;
-    let mut j: usize = 0;
-    while j < tables::ACB_TAPS {
-        sum += taps[j] as i32;
-        j += 1;
+    for tap in &taps {
+        sum += i32::from(*tap);
     }
-    let twice = sum * 2;
-    if twice < 0 {
-        return 0;
-    }
-    if tables::TAPS_SUM_MAX_Q15 < twice {
-        return tables::TAPS_SUM_MAX_Q15;
-    }
-    twice
+    (sum * 2).clamp(0, tables::TAPS_SUM_MAX_Q15)
 }
 
 // The unvoiced gain that is stored for erased frames, from the gain indices of subframes 2 and 3.
 pub fn unvoiced_gain(index2: u8, index3: u8) -> i32
     ensures { result ≡ pos (unvoiced_gain index2 index3) }
 {
-    let g2 = pulses::doubled_gain(index2);
-    let g3 = pulses::doubled_gain(index3);
-    (g2 + g3) / 2
+    (pulses::doubled_gain(index2) + pulses::doubled_gain(index3)) / 2
 }

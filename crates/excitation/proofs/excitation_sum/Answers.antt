@@ -1,0 +1,8 @@
+use Rattle.std.proofs.Common.{rules, pos}
+use Rattle.integers.specs.FromFn.{from_fn_is}
+use Rattle.excitation.specs.Excitation.{limited_sum}
+use Rattle.excitation.proofs.excitation_sum.Goals as goal
+
+pub returns : goal.returns
+unfolding limited_sum
+returns c = from_fn_is _ _ _ _ (λ i y q lt k. search rules) (pos 0) c.from_fn.ensures.items
