@@ -11,11 +11,11 @@ fn top_shift(v: u64) -> u32
     requires { 0 < v }
     ensures { (result < 64) × (2 ^ 63 ≤ v * 2 ^ result) × (v * 2 ^ result < 2 ^ 64) }
 {
-    u64::leading_zeros(v)
+    v.leading_zeros()
 }
 
 // A quotient with its remainder.
-#[derive(Clone, Copy)]
+#[derive(Clone, Copy, PartialEq, Eq, Debug)]
 struct Division {
     quotient: u64,
     remainder: u64,
@@ -33,7 +33,7 @@ fn too_large(q: u64, v0: u32, r: u64, l: u32) -> bool
     if r >= 0x1_0000_0000 {
         return false;
     }
-    r * 0x1_0000_0000 + (l as u64) < wide::half_product(q as u32, v0)
+    r * 0x1_0000_0000 + u64::from(l) < wide::half_product(q as u32, v0)
 }
 
 // One digit of a quotient in base 2^32, that of u and the next digit l by v. The top bit of v is
@@ -46,6 +46,7 @@ fn digit(u: u64, l: u32, v: u64) -> Division
     let v0 = (v % 0x1_0000_0000) as u32;
     let mut q = u / v1;
     let mut r = u % v1;
+    // No counting loop: it ends when the estimate is right, within two turns.
     while too_large(q, v0, r, l) {
         q -= 1;
         r += v1;
@@ -54,7 +55,7 @@ fn digit(u: u64, l: u32, v: u64) -> Division
     // The shift can lose bits of r, but the difference is below 2^64.
     Division {
         quotient: q,
-        remainder: std::num::wrapping_sub_u64((r << 32) + l as u64, p),
+        remainder: ((r << 32) + u64::from(l)).wrapping_sub(p),
     }
 }
 
@@ -77,9 +78,7 @@ fn by_word(n: Wide, v: u64) -> u64
     ensures { result ≡ value n / v }
 {
     let s = top_shift(v);
-    let m = wide::shift_left(n, s);
-    let d = two_digits(m, v << s);
-    d.quotient
+    two_digits(wide::shift_left(n, s), v << s).quotient
 }
 
 // Three words by a pair, from the quotient of the upper two by d.hi. Where the remainder leaves
@@ -90,12 +89,13 @@ fn corrected(estimate: Division, l: u64, d: Wide) -> u64
 {
     let mut q = estimate.quotient;
     let mut r = estimate.remainder;
+    // No counting loop: it ends when the estimate is right, within two turns.
     while wide::less(Wide { hi: r, lo: l }, wide::product(q, d.lo)) {
         q -= 1;
-        if u64::MAX - r < d.hi {
+        let Some(sum) = r.checked_add(d.hi) else {
             return q;
-        }
-        r += d.hi;
+        };
+        r = sum;
     }
     q
 }
@@ -114,8 +114,7 @@ fn by_pair(n: Wide, d: Wide) -> u64
         hi: top.hi,
         lo: m.hi,
     };
-    let estimate = two_digits(upper, v.hi);
-    corrected(estimate, m.lo, v)
+    corrected(two_digits(upper, v.hi), m.lo, v)
 }
 
 // The floor of a quotient; by 0, 0.

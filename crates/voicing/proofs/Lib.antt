@@ -1,4 +1,3 @@
 pub mod Highest
 pub mod Weights
-pub mod Scores
 pub mod Leaders

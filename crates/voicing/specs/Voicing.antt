@@ -1,11 +1,9 @@
 -- Whether an erased frame is voiced, and at which lag (document 01, "Erasure"; the Rust's classify_erasure_voicing; §3.10.2 of G.723.1). y is the last 120 samples of output.
-use Rattle.std.specs.Prelude.{Bool, cond, ◌&&◌, List, ℕ, zero, suc, ◌-◌, ◌*◌, ◌/◌, ◌≤◌, ◌<◌, ltb, leb, ℤ, pos, nat_abs, ◌+ℤ◌, ◌-ℤ◌}
+use Rattle.std.specs.Prelude.{Bool, cond, ◌&&◌, Option, Some, None, List, ℕ, zero, suc, ◌-◌, ◌*◌, ◌/◌, ◌≤◌, ◌<◌, ltb, leb, ℤ, pos, nat_abs, ◌+ℤ◌, ◌-ℤ◌}
 use Rattle.std.specs.Int.Signed.{lt_z}
 use Rattle.tables.specs.Constants.{lag_reach, classifier_history, voicing_gate, voicing_rank_one}
 use Rattle.correlation.specs.Correlation.{correlation, energy}
 use Rattle.adaptive.specs.Adaptive.{limited_lag}
-use Rattle.voicing.specs.declared.Voicing.{Voicing}
-use Rattle.voicing.specs.declared.Voicing.TheVariants.{Unvoiced, Voiced}
 
 -- ---- a lag
 
@@ -67,5 +65,5 @@ unfoldable pub leading_lag : List ℤ → ℕ → ℕ
 leading_lag y centre = candidate centre (first_highest (λ k. score y (candidate centre k)) (2 * lag_reach))
 
 -- voiced at that lag, if it counts and passes the gate
-unfoldable pub voicing_of : List ℤ → ℕ → Voicing
-voicing_of y centre = let m = leading_lag y centre in cond (counts y m && gated y m) (Voiced m) Unvoiced
+unfoldable pub voicing_of : List ℤ → ℕ → Option ℕ
+voicing_of y centre = let m = leading_lag y centre in cond (counts y m && gated y m) (Some m) None

@@ -1,7 +1,7 @@
 // Whether an erased frame is voiced, and at which lag, under the Rust's name (qdec.rs).
 #![tactic(auto)]
 
-ghost use Rattle.std.specs.Prelude.{◌≡◌, false, cond, ◌*◌, ◌/◌, ◌^◌, ◌≤◌, ◌<◌, ltb, leb};
+ghost use Rattle.std.specs.Prelude.{◌≡◌, cond, ◌*◌, ◌/◌, ◌^◌, ◌≤◌, ◌<◌, ltb, leb};
 ghost use Rattle.integers.specs.Base.{Within};
 ghost use Rattle.tables.specs.Constants.{voicing_gate, voicing_rank_one};
 ghost use Rattle.wide.specs.Value.{value};
@@ -14,17 +14,10 @@ const HISTORY: u8 = tables::ERASURE_CLASSIFIER_HISTORY_LEN as u8;
 
 const CANDIDATES: u8 = tables::LAG_CANDIDATES as u8;
 
-#[derive(Clone, Copy)]
-pub enum Voicing {
-    Unvoiced,
-    Voiced(u8),
-}
-
-// A lag, with what the Rust's search keeps of it: whether it counts, its rank, and whether it passes the gate.
-#[derive(Clone, Copy)]
-struct Leader {
+// A lag that counts, with its rank and whether it passes the gate.
+#[derive(Clone, Copy, PartialEq, Eq, Debug)]
+struct Ranked {
     lag: u8,
-    counts: bool,
     rank: Wide,
     gated: bool,
 }
@@ -34,7 +27,7 @@ fn candidate_lag(centre: u8, k: u8) -> u8
     requires { k < 7 }
     ensures { result ≡ candidate centre k }
 {
-    adaptive::limited_lag(centre as i32 + k as i32 - tables::LAG_REACH) as u8
+    adaptive::limited_lag(i32::from(centre) + i32::from(k) - tables::LAG_REACH) as u8
 }
 
 // c²/(e t) in 2^30ths. A sum of less than 120 products leaves room for 2^30.
@@ -54,93 +47,61 @@ fn passes_gate(c: u64, e: u64, t: u64) -> bool
     !wide::less(square, wide::product(e, t))
 }
 
-// A lag that does not count.
-fn uncounted(lag: u8) -> Leader
-    ensures { (result.lag ≡ lag) × (result.counts ≡ false) }
-{
-    Leader {
-        lag: lag,
-        counts: false,
-        rank: Wide { hi: 0, lo: 0 },
-        gated: false,
-    }
-}
-
 // A lag with its sums.
-fn with_sums(lag: u8, s: i64, e: u64, t: u64) -> Leader
+fn with_sums(lag: u8, s: i64, e: u64, t: u64) -> Option<Ranked>
     requires { Within (2 ^ 37) s }
-    ensures lag_value { result.lag ≡ lag }
-    ensures weighs_by { WeighsBy s e t result }
+    ensures { WeighsBy s e t lag result }
 {
-    if s <= 0 {
-        return uncounted(lag);
-    }
-    if e == 0 {
-        return uncounted(lag);
-    }
-    if t == 0 {
-        return uncounted(lag);
+    if s <= 0 || e == 0 || t == 0 {
+        return None;
     }
     let c = s as u64;
-    let rank = lag_rank(c, e, t);
-    let gated = passes_gate(c, e, t);
-    Leader {
-        lag: lag,
-        counts: true,
-        rank: rank,
-        gated: gated,
-    }
+    Some(Ranked {
+        lag,
+        rank: lag_rank(c, e, t),
+        gated: passes_gate(c, e, t),
+    })
 }
 
-fn weighed(pcm_hist: &[i16; 120], lag: u8) -> Leader
+fn weighed(pcm_hist: &[i16; 120], lag: u8) -> Option<Ranked>
     ensures { Weighs pcm_hist.now lag result }
 {
     if lag >= HISTORY {
-        return uncounted(lag);
+        return None;
     }
     let n = HISTORY - lag;
-    let s = correlation::correlate(pcm_hist, lag as usize, pcm_hist, 0, n);
+    let s = correlation::correlate(pcm_hist, usize::from(lag), pcm_hist, 0, n);
     let e = correlation::energy_from(pcm_hist, 0, n);
-    let t = correlation::energy_from(pcm_hist, lag as usize, n);
+    let t = correlation::energy_from(pcm_hist, usize::from(lag), n);
     with_sums(lag, s, e, t)
 }
 
 // The one that ranks higher; a of equals.
-fn higher(a: Leader, b: Leader) -> Leader
+fn higher(a: Option<Ranked>, b: Option<Ranked>) -> Option<Ranked>
     ensures { result ≡ cond (ltb (score_of a) (score_of b)) b a }
 {
-    if !b.counts {
-        return a;
+    match (a, b) {
+        (Some(x), Some(y)) => if wide::less(x.rank, y.rank) { b } else { a },
+        (None, _) => b,
+        (_, None) => a,
     }
-    if !a.counts {
-        return b;
-    }
-    let rank = a.rank;
-    if wide::less(rank, b.rank) { b } else { a }
 }
 
 // The lag that ranks highest, the first of equals.
-fn leading(pcm_hist: &[i16; 120], centre: u8) -> Leader
+fn leading(pcm_hist: &[i16; 120], centre: u8) -> Option<Ranked>
     ensures { Weighs pcm_hist.now (leading_lag pcm_hist.now centre) result }
 {
     let mut best = weighed(pcm_hist, candidate_lag(centre, 0));
-    let mut k: u8 = 1;
-    while k < CANDIDATES {
-        let next = weighed(pcm_hist, candidate_lag(centre, k));
-        let b = higher(best, next);
-        best = b;
-        k += 1;
+    for k in 1..CANDIDATES {
+        best = higher(best, weighed(pcm_hist, candidate_lag(centre, k)));
     }
     best
 }
 
-// centre is the last frame's lag of subframe 2.
-pub fn classify_erasure_voicing(pcm_hist: &[i16; 120], centre: u8) -> Voicing
+// The lag of a voiced frame. centre is the last frame's lag of subframe 2.
+pub fn classify_erasure_voicing(pcm_hist: &[i16; 120], centre: u8) -> Option<u8>
     ensures { result ≡ voicing_of pcm_hist.now centre }
 {
-    let w = leading(pcm_hist, centre);
-    if w.counts && w.gated {
-        return Voicing::Voiced(w.lag);
-    }
-    Voicing::Unvoiced
+    let w = leading(pcm_hist, centre)?;
+    if w.gated { Some(w.lag) } else { None }
 }
