@@ -1,8 +1,9 @@
 // The fields of a record: candidate LSPs from its bytes, the others from those after its head.
 #![tactic(auto)]
 
-ghost use Rattle.std.specs.Prelude.{◌≡◌, ◌<◌};
-ghost use Rattle.record.specs.Record.{words, candidates, base_lag_of, lag, count, description, fixed, block_of};
+ghost use Rattle.std.specs.Prelude.{◌≡◌, ◌+◌, ◌*◌, ◌<◌, ◌^◌};
+ghost use Rattle.excitation.specs.declared.Rate.TheVariants.{Low};
+ghost use Rattle.record.specs.Record.{words, candidates, base_lag_of, step, lag, count, description, fixed, block_of};
 
 use excitation::{Rate, Subframe};
 use positions::Count;
@@ -18,73 +19,52 @@ pub struct Block {
     pub fixed: [i32; 60],
 }
 
+// The values of 16 bits from a place on.
+fn words_at<const N: usize>(bytes: &[u8], at: usize) -> [i16; N]
+    requires { at + 2 * N < 2 ^ 64 }
+    ensures { result ≡ words bytes.now at N }
+{
+    std::array::from_fn(|k| reader::word_field(bytes, at + 2 * k))
+}
+
 // Ten candidate LSPs.
 pub fn candidate_lsps(record: &[u8]) -> [i16; 10]
     ensures { result ≡ candidates «record».now }
 {
-    let mut out = [0i16; 10];
-    let mut k: usize = 0;
-    while k < tables::LPC_ORDER {
-        out[k] = reader::word_field(record, tables::LSPS_PLACE + 2 * k);
-        k += 1;
-    }
-    out
+    words_at(record, tables::LSPS_PLACE)
 }
 
 fn base_lag(fields: &[u8], s: Subframe) -> u16
     ensures { result ≡ base_lag_of fields.now s }
 {
-    reader::byte_field(fields, layout::lag_place(s)) as u16 + tables::PITCH_MIN as u16
+    u16::from(reader::byte_field(fields, layout::lag_place(s))) + tables::PITCH_MIN as u16
 }
 
-// Step codes 0, 1, 2, 3 add -1, 0, 1, 2 (the Rust's DELTA_LAG); an even subframe has none, and adds 0.
+// Step codes 0, 1, 2, 3 add -1, 0, 1, 2 (the Rust's DELTA_LAG).
+fn step(code: u8) -> i32
+    ensures { result ≡ step code }
+{
+    i32::from(code) - i32::from(tables::STEP_CODE_ZERO)
+}
+
+// An even subframe has no step.
 fn own_lag(fields: &[u8], s: Subframe) -> i32
     ensures { result ≡ lag fields.now s }
 {
-    let base = base_lag(fields, s);
-    let code = match s {
-        Subframe::Zero => tables::STEP_CODE_ZERO,
-        Subframe::One => reader::byte_field(fields, tables::STEP_1_PLACE),
-        Subframe::Two => tables::STEP_CODE_ZERO,
-        Subframe::Three => reader::byte_field(fields, tables::STEP_3_PLACE),
-    };
-    base as i32 + (code as i32 - tables::STEP_CODE_ZERO as i32)
-}
-
-fn taps_at(fields: &[u8], at: usize) -> [i16; 5]
-    requires { at < 900 }
-    ensures { result ≡ words fields.now at 5 }
-{
-    let mut out = [0i16; 5];
-    let mut k: usize = 0;
-    while k < tables::ACB_TAPS {
-        out[k] = reader::word_field(fields, at + 2 * k);
-        k += 1;
+    let base = i32::from(base_lag(fields, s));
+    match s {
+        Subframe::Zero | Subframe::Two => base,
+        Subframe::One => base + step(reader::byte_field(fields, tables::STEP_1_PLACE)),
+        Subframe::Three => base + step(reader::byte_field(fields, tables::STEP_3_PLACE)),
     }
-    out
-}
-
-fn values_at(fields: &[u8], at: usize) -> [i32; 60]
-    requires { at < 800 }
-    ensures { result ≡ words fields.now at 60 }
-{
-    let mut out = [0i32; 60];
-    let mut k: usize = 0;
-    while k < tables::SUBFRAME_SIZE {
-        out[k] = reader::word_field(fields, at + 2 * k) as i32;
-        k += 1;
-    }
-    out
 }
 
 fn pulse_count(s: Subframe) -> Count
     ensures { result ≡ count s }
 {
     match s {
-        Subframe::Zero => Count::Six,
-        Subframe::One => Count::Five,
-        Subframe::Two => Count::Six,
-        Subframe::Three => Count::Five,
+        Subframe::Zero | Subframe::Two => Count::Six,
+        Subframe::One | Subframe::Three => Count::Five,
     }
 }
 
@@ -93,20 +73,23 @@ fn pulse_description(fields: &[u8], s: Subframe) -> Description
 {
     let at = layout::block_place(Rate::High, s);
     let flags = reader::byte_field(fields, at + tables::FLAGS_PLACE);
-    let n = pulse_count(s);
-    let base = base_lag(fields, s);
-    let code = reader::code_field(fields, at + tables::CODE_PLACE);
-    let signs = reader::byte_field(fields, at + tables::SIGNS_PLACE);
-    let gain_index = reader::byte_field(fields, at + tables::GAIN_INDEX_PLACE);
     Description {
-        count: n,
+        count: pulse_count(s),
         train: flags / 2 % 2 == 1,
-        base_lag: base as u32,
+        base_lag: u32::from(base_lag(fields, s)),
         grid: flags % 2 == 1,
-        code: code,
-        signs: signs,
-        gain_index: gain_index,
+        code: reader::code_field(fields, at + tables::CODE_PLACE),
+        signs: reader::byte_field(fields, at + tables::SIGNS_PLACE),
+        gain_index: reader::byte_field(fields, at + tables::GAIN_INDEX_PLACE),
     }
+}
+
+// The values of a Low block.
+fn fixed_values(fields: &[u8], s: Subframe) -> [i32; 60]
+    ensures { result ≡ fixed Low fields.now s }
+{
+    let at = layout::block_place(Rate::Low, s) + tables::VALUES_PLACE;
+    words_at(fields, at).map(i32::from)
 }
 
 fn fixed_vector(fields: &[u8], rate: Rate, s: Subframe) -> [i32; 60]
@@ -114,27 +97,20 @@ fn fixed_vector(fields: &[u8], rate: Rate, s: Subframe) -> [i32; 60]
 {
     match rate {
         Rate::High => pulses::mpmlq_fixed_vector(pulse_description(fields, s)),
-        Rate::Low => values_at(
-            fields,
-            layout::block_place(Rate::Low, s) + tables::VALUES_PLACE,
-        ),
+        Rate::Low => fixed_values(fields, s),
     }
 }
 
+#[tactic(auto, unfolding(crate::specs::Record::block_of))]
 pub fn read_block(fields: &[u8], rate: Rate, s: Subframe) -> Block
     ensures { result ≡ block_of rate fields.now s }
 {
     let at = layout::block_place(rate, s);
-    let base = base_lag(fields, s);
-    let lag = own_lag(fields, s);
-    let taps = taps_at(fields, at);
-    let gain_index = reader::byte_field(fields, at + tables::GAIN_INDEX_PLACE);
-    let fixed = fixed_vector(fields, rate, s);
     Block {
-        base_lag: base as i32,
-        lag: lag,
-        taps: taps,
-        gain_index: gain_index,
-        fixed: fixed,
+        base_lag: i32::from(base_lag(fields, s)),
+        lag: own_lag(fields, s),
+        taps: words_at(fields, at),
+        gain_index: reader::byte_field(fields, at + tables::GAIN_INDEX_PLACE),
+        fixed: fixed_vector(fields, rate, s),
     }
 }
