@@ -9,110 +9,85 @@
 // is no frame), and the checksums of the samples and of the state.
 #![tactic(auto)]
 
+mod checksum;
 mod image;
-mod sums;
-mod text;
+mod line;
 
+use anyhow::bail;
+use checksum::Checksum;
+use line::Line;
 use state::State;
-use text::Line;
+use std::alloc::Global;
+use std::io::{self, BufRead, BufReader, BufWriter, Write};
 use verdict::Verdict;
-
-// The number, the code of the outcome and the samples' checksum, and the state after the line.
-#[derive(Clone, Copy)]
-struct Turn {
-    number: u8,
-    outcome: u8,
-    sum: u64,
-    state: State,
-}
 
 // The code where no frame was decoded.
 const NO_OUTCOME: u8 = 3;
 
-fn outcome_of(v: Verdict) -> u8 {
+// What a line is answered, but for the state's checksum, and the state after it.
+#[derive(Clone, Copy)]
+struct Turn {
+    number: u8,
+    outcome: u8,
+    samples: Checksum,
+    state: State,
+}
+
+impl Turn {
+    // A state that is given, with no frame.
+    fn given(state: State) -> Self {
+        Turn {
+            number: 0,
+            outcome: NO_OUTCOME,
+            samples: Checksum::NONE,
+            state,
+        }
+    }
+}
+
+fn outcome_code(v: Verdict) -> u8 {
     match v {
-        Verdict::Accepted(o) => stability::outcome_code(o),
+        Verdict::Accepted(outcome) => stability::outcome_code(outcome),
         Verdict::Refused(_) => NO_OUTCOME,
     }
 }
 
-// The samples that are lent for a record, to its end.
-fn record_turn(s: State, record: &[u8], samples: &mut [i16]) -> Turn {
-    let a = decoder::decode(s, record, samples);
-    let v = a.verdict;
-    let next = a.state;
-    Turn {
-        number: verdict::verdict_number(v),
-        outcome: outcome_of(v),
-        sum: sums::sum16(0, samples),
-        state: next,
-    }
-}
-
-// m bytes and n samples of those that there are.
-fn cut(s: State, bytes: &[u8], m: usize, samples: &mut [i16], n: usize) -> Turn {
-    if m <= bytes.len() && n <= samples.len() {
-        return record_turn(s, &bytes[0..m], &mut samples[0..n]);
-    }
-    record_turn(s, bytes, samples)
-}
-
 // A record, with samples that are all marked before.
-fn decoded(line: Line, s: State) -> Turn {
-    let bytes = line.bytes;
-    let mark = image::signed16(line.second);
-    let mut samples = [mark; 300];
-    cut(
-        s,
-        &bytes,
-        line.count as usize,
-        &mut samples,
-        line.first as usize,
-    )
+fn decoded(alloc: Global, line: &Line<'_>, state: State) -> anyhow::Result<Turn> {
+    let mut samples = vec![in alloc; line.second.cast_signed(); usize::from(line.first)]?;
+    let answer = decoder::decode(state, line.bytes.as_slice(), samples.as_mut_slice());
+    Ok(Turn {
+        number: verdict::verdict_number(answer.verdict),
+        outcome: outcome_code(answer.verdict),
+        samples: Checksum::NONE.with(samples.as_slice()),
+        state: answer.state,
+    })
 }
 
-fn answered(line: Line, s: State) -> Turn {
-    if line.letter == 68 {
-        return decoded(line, s);
-    }
-    let bytes = line.bytes;
-    let next = if line.letter == 83 {
-        image::state_of(&bytes)
-    } else {
-        state::fresh(line.first == 1)
-    };
-    Turn {
-        number: 0,
-        outcome: NO_OUTCOME,
-        sum: 0,
-        state: next,
+fn answered(alloc: Global, line: &Line<'_>, state: State) -> anyhow::Result<Turn> {
+    match line.letter {
+        "F" => Ok(Turn::given(state::fresh(line.first == 1))),
+        "S" => Ok(Turn::given(image::state_of(line.bytes.as_slice())?)),
+        "D" => decoded(alloc, line, state),
+        letter => bail!("no line begins with {letter:?}"),
     }
 }
 
-fn print(t: Turn) {
-    io::print_decimal(1, t.number as u64);
-    io::write_all(1, b" ");
-    io::print_decimal(1, t.outcome as u64);
-    io::write_all(1, b" ");
-    io::print_decimal(1, t.sum);
-    io::write_all(1, b" ");
-    let s = t.state;
-    io::print_decimal(1, sums::state_sum(s));
-    io::write_all(1, b"\n");
-}
-
-fn main() {
-    let mut s = state::fresh(true);
-    let mut turns: u32 = 1_000_000;
-    while turns > 0 {
-        let line = text::next_line();
-        if line.letter == 0 {
-            break;
-        }
-        let t = answered(line, s);
-        print(t);
-        let next = t.state;
-        s = next;
-        turns -= 1;
+fn main(rt: HostRuntime) -> anyhow::Result<()> {
+    let mut out = BufWriter::new(rt.alloc(), io::writer(&rt))?;
+    let mut state = state::fresh(true);
+    for text in BufReader::new(rt.alloc(), rt.reader())?.lines(rt.alloc()) {
+        let text = text?;
+        let line = Line::parse(rt.alloc(), text.as_str())?;
+        let turn = answered(rt.alloc(), &line, state)?;
+        state = turn.state;
+        let sum = checksum::of_state(&state);
+        writeln!(
+            out,
+            "{} {} {} {sum}",
+            turn.number, turn.outcome, turn.samples
+        )?;
     }
+    out.flush()?;
+    Ok(())
 }
