@@ -1,4 +1,5 @@
 -- The ways out of the decoder: what was examined, and the answer, number and samples that follow from it.
+use Rattle.std.specs.Prelude.{Result, Ok, Err}
 use mathlib.Core.Path.{◌≡◌, refl, sym, ap, ◌∙◌}
 use mathlib.Core.Bool.{Bool, true, false, not, cond}
 use mathlib.Core.List.{List}
@@ -14,8 +15,8 @@ use Rattle.verdict.specs.Verdicts.{number_of}
 use Rattle.refusals.specs.Refusals.{found, number_found}
 use Rattle.numbers.specs.declared.Refusal.{Refusal}
 use Rattle.numbers.specs.declared.Refusal.TheVariants.{SampleLength, StateBounds}
-use Rattle.refusals.specs.declared.Found.{Found}
-use Rattle.refusals.specs.declared.Found.TheVariants.{Erased, Received, Refused}
+use Rattle.refusals.specs.declared.Frame.{Frame}
+use Rattle.refusals.specs.declared.Frame.TheVariants.{Erased, Received}
 use Rattle.state.specs.State.{in_bounds}
 use Rattle.state.specs.declared.State.{State}
 use Rattle.decoder.specs.Frame.{candidates_of, erased_checked, erased_samples, erased_state, received_checked, received_samples, received_state}
@@ -27,17 +28,17 @@ module _ (s : State) (r : List ℕ) (samples : List ℤ) where
 
   -- by its two tests
   examined-by : (a b : Bool) → eqb (length samples) 240 ≡ a → in_bounds s ≡ b →
-      examined s r samples ≡ cond (not a) (Refused SampleLength) (cond (not b) (Refused StateBounds) (found r))
+      examined s r samples ≡ cond (not a) (Err SampleLength) (cond (not b) (Err StateBounds) (found r))
   unfolding examined
-  examined-by a b h g = λ i. cond (not (h i)) (Refused SampleLength) (cond (not (g i)) (Refused StateBounds) (found r))
+  examined-by a b h g = λ i. cond (not (h i)) (Err SampleLength) (cond (not (g i)) (Err StateBounds) (found r))
 
-  pub length_refused : (length samples ≡ 240 → ⊥) → examined s r samples ≡ Refused SampleLength
+  pub length_refused : (length samples ≡ 240 → ⊥) → examined s r samples ≡ Err SampleLength
   length_refused h = examined-by false (in_bounds s) (ne_eqb (length samples) 240 h) (λ i. in_bounds s)
 
-  pub bounds_refused : length samples ≡ 240 → in_bounds s ≡ false → examined s r samples ≡ Refused StateBounds
+  pub bounds_refused : length samples ≡ 240 → in_bounds s ≡ false → examined s r samples ≡ Err StateBounds
   bounds_refused h g = examined-by true false (eq-eqb (length samples) 240 h) g
 
-  pub record_found_lem : length samples ≡ 240 → in_bounds s ≡ true → {k : Found} → found r ≡ k → examined s r samples ≡ k
+  pub record_found_lem : length samples ≡ 240 → in_bounds s ≡ true → {k : Result Frame Refusal} → found r ≡ k → examined s r samples ≡ k
   record_found_lem h g e = examined-by true true (eq-eqb (length samples) 240 h) g ∙ e
 
   -- ---- what follows, of an answer a and samples o
@@ -47,31 +48,31 @@ module _ (s : State) (r : List ℕ) (samples : List ℤ) where
       (a ≡ answer_of s r samples)
       × ((number_of a.verdict ≡ first_number s r samples) × (o ≡ samples_of s r samples))
 
-  number-to : (k : Found) → number_of (answer_to k s r).verdict ≡ number_found k
+  number-to : (k : Result Frame Refusal) → number_of (answer_to k s r).verdict ≡ number_found k
   unfolding answer_to
-  number-to (Refused n) = refl
-  number-to Erased = refl
-  number-to (Received rate form) = refl
+  number-to (Err n) = refl
+  number-to (Ok Erased) = refl
+  number-to (Ok (Received rate form)) = refl
 
-  promised : (k : Found) → examined s r samples ≡ k → {a : Answer} {o : List ℤ} →
+  promised : (k : Result Frame Refusal) → examined s r samples ≡ k → {a : Answer} {o : List ℤ} →
       a ≡ answer_to k s r → o ≡ samples_to k s r samples → Promised a o
   promised k e p q = (
-    p ∙ sym (ap (λ (x : Found). answer_to x s r) e),
+    p ∙ sym (ap (λ (x : Result Frame Refusal). answer_to x s r) e),
     (
       ap (λ (x : Answer). number_of x.verdict) p ∙ number-to k ∙ sym (ap number_found e),
-      q ∙ sym (ap (λ (x : Found). samples_to x s r samples) e),
+      q ∙ sym (ap (λ (x : Result Frame Refusal). samples_to x s r samples) e),
     ),
   )
 
-  pub refused_promised : (n : Refusal) → examined s r samples ≡ Refused n → {a : Answer} →
+  pub refused_promised : (n : Refusal) → examined s r samples ≡ Err n → {a : Answer} →
       a ≡ refusal s n → Promised a samples
   unfolding answer_to samples_to
-  refused_promised n e p = promised (Refused n) e p refl
+  refused_promised n e p = promised (Err n) e p refl
 
   pub erased_promised : examined s r samples ≡ Erased → {a : Answer} {o : List ℤ} →
       a ≡ acceptance (erased_checked s).outcome (erased_state s) → o ≡ erased_samples s → Promised a o
   unfolding answer_to samples_to
-  erased_promised e p q = promised Erased e p q
+  erased_promised e p q = promised (Ok Erased) e p q
 
   abbrev read : LspForm → List ℤ
   read form = candidates_of form r s.prev_lsp
@@ -80,4 +81,4 @@ module _ (s : State) (r : List ℕ) (samples : List ℤ) where
       a ≡ acceptance (received_checked s (read form)).outcome (received_state s rate (fields_of form r) (read form)) →
       o ≡ received_samples s rate (fields_of form r) (read form) → Promised a o
   unfolding answer_to samples_to
-  received_promised rate form e p q = promised (Received rate form) e p q
+  received_promised rate form e p q = promised (Ok (Received rate form)) e p q

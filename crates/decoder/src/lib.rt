@@ -14,13 +14,13 @@ use layout::LspForm;
 use numbers::Refusal;
 use output::Filters;
 use record::Block;
-use refusals::Found;
+use refusals::Frame;
 use stability::Stabilised;
 use state::State;
 use verdict::Verdict;
 
 // What is stored of a frame for erased ones (record_last_frame).
-#[derive(Clone, Copy)]
+#[derive(Clone, Copy, PartialEq, Eq, Debug)]
 pub struct LastFrame {
     pub last_lag: i32,
     pub last_lag2: i32,
@@ -35,32 +35,21 @@ pub struct Answer {
     pub state: State,
 }
 
-// Where that tail starts in a frame.
+// The tail that the classifier of erased frames reads (record_pcm_history), and where it starts in a frame.
 const TAIL: usize = tables::FRAME_SIZE_SAMPLES - tables::ERASURE_CLASSIFIER_HISTORY_LEN;
 
-// The tail that the classifier of erased frames reads (record_pcm_history).
 fn pcm_history(tail: &[i16]) -> [i16; 120]
     requires { length tail.now ≡ 120 }
     ensures { result ≡ tail.now }
 {
-    let mut h = [0i16; 120];
-    let mut n: usize = 0;
-    while n < tables::ERASURE_CLASSIFIER_HISTORY_LEN {
-        h[n] = tail[n];
-        n += 1;
-    }
-    h
+    std::array::from_fn(|n| tail[n])
 }
 
 // The input of the synthesis of each subframe: the excitation itself.
 fn plain_inputs(signal: &[i16; 386]) -> [[i32; 60]; 4]
     ensures { result ≡ plain_inputs signal.now }
 {
-    let x0 = pitch::plain_subframe(signal, Subframe::Zero);
-    let x1 = pitch::plain_subframe(signal, Subframe::One);
-    let x2 = pitch::plain_subframe(signal, Subframe::Two);
-    let x3 = pitch::plain_subframe(signal, Subframe::Three);
-    [x0, x1, x2, x3]
+    Subframe::ALL.map(|s| pitch::plain_subframe(signal, s))
 }
 
 // With the postfilter on, through the pitch postfilter.
@@ -70,22 +59,15 @@ fn received_inputs(signal: &[i16; 386], on: bool, rate: Rate, lags: [i32; 4]) ->
     if !on {
         return plain_inputs(signal);
     }
-    let x0 = pitch::pitch_postfilter(signal, Subframe::Zero, lags[0], rate);
-    let x1 = pitch::pitch_postfilter(signal, Subframe::One, lags[1], rate);
-    let x2 = pitch::pitch_postfilter(signal, Subframe::Two, lags[2], rate);
-    let x3 = pitch::pitch_postfilter(signal, Subframe::Three, lags[3], rate);
-    [x0, x1, x2, x3]
+    Subframe::ALL.map(|s| pitch::pitch_postfilter(signal, s, lags[s as usize], rate))
 }
 
 // The signal with the excitation of a subframe.
 fn received_subframe(signal: [i16; 386], s: Subframe, b: Block) -> [i16; 386]
     ensures { result ≡ received_to b signal s }
 {
-    let taps = b.taps;
-    let fixed = b.fixed;
-    let u = adaptive::acb_contribution(&signal, s, b.lag, taps);
-    let e = excitation::excitation_sum(u, fixed);
-    excitation::push_excitation(signal, s, e)
+    let u = adaptive::acb_contribution(&signal, s, b.lag, b.taps);
+    excitation::push_excitation(signal, s, excitation::excitation_sum(u, b.fixed))
 }
 
 // The end of a frame: its samples, and the answer with the next state.
@@ -102,39 +84,28 @@ fn finish_frame(
     ensures answer { result ≡ acceptance checked.outcome (frame_state given checked.lsps inputs signal last) }
     ensures samples { samples.new ≡ frame_samples given checked.lsps inputs }
 {
-    let prev = given.prev_lsp;
-    let lsps = checked.lsps;
-    let sets = lpc::frame_lpc_q13(prev, lsps);
-    let wide = given.syn_mem;
-    let mem = widths::narrow_memory(wide);
-    let pf = given.pf;
+    let sets = lpc::frame_lpc_q13(given.prev_lsp, checked.lsps);
     let before = Filters {
-        syn_mem: mem,
-        pf: pf,
+        syn_mem: widths::narrow_memory(given.syn_mem),
+        pf: given.pf,
     };
-    let f = output::output_frame(samples, given.postfilter, sets, inputs, before);
-    let tail = pcm_history(&samples[TAIL..tables::FRAME_SIZE_SAMPLES]);
-    let history = widths::history_after(&signal);
-    let narrow = f.syn_mem;
-    let after = widths::widen_memory(narrow);
-    let pf_after = f.pf;
-    let next = State {
-        prev_lsp: lsps,
-        exc_hist: history,
-        syn_mem: after,
-        pf: pf_after,
+    let after = output::output_frame(samples, given.postfilter, sets, inputs, before);
+    let state = State {
+        prev_lsp: checked.lsps,
+        exc_hist: widths::history_after(&signal),
+        syn_mem: widths::widen_memory(after.syn_mem),
+        pf: after.pf,
         last_lag: last.last_lag,
         last_lag2: last.last_lag2,
         last_taps_sum_q15: last.last_taps_sum_q15,
         last_gain_unvoiced: last.last_gain_unvoiced,
-        pcm_hist: tail,
+        pcm_hist: pcm_history(&samples[TAIL..]),
         erased_run: last.erased_run,
         postfilter: given.postfilter,
     };
-    let outcome = checked.outcome;
     Answer {
-        verdict: Verdict::Accepted(outcome),
-        state: next,
+        verdict: Ok(checked.outcome),
+        state,
     }
 }
 
@@ -146,20 +117,20 @@ fn decode_erased(samples: &mut [i16], given: State) -> Answer
     ensures samples { samples.new ≡ erased_samples given }
 {
     let run = noise::next_run(given.erased_run);
-    let prev = given.prev_lsp;
-    let candidates = lsp::lsp_extrapolate(prev);
+    let candidates = lsp::lsp_extrapolate(given.prev_lsp);
     let checked = stability::lsp_check_or_previous(
         candidates,
-        prev,
+        given.prev_lsp,
         tables::LSP_DELTA_MIN_ERASURE_Q15,
     );
-    let pcm = given.pcm_hist;
-    let class = voicing::classify_erasure_voicing(&pcm, given.last_lag2 as u8);
-    let tap_sum = given.last_taps_sum_q15 as i16;
-    let gain = given.last_gain_unvoiced as i16;
-    let history = given.exc_hist;
-    let silent = widths::frame_signal(history);
-    let signal = erasure::erased_excitation(silent, class, tap_sum, gain, run);
+    let class = voicing::classify_erasure_voicing(&given.pcm_hist, given.last_lag2 as u8);
+    let signal = erasure::erased_excitation(
+        widths::frame_signal(given.exc_hist),
+        class,
+        given.last_taps_sum_q15 as i16,
+        given.last_gain_unvoiced as i16,
+        run,
+    );
     let inputs = plain_inputs(&signal);
     let last = LastFrame {
         last_lag: given.last_lag,
@@ -201,23 +172,18 @@ fn decode_received(
 {
     let prev = given.prev_lsp;
     let checked = stability::lsp_check_or_previous(candidates, prev, tables::LSP_DELTA_MIN_Q15);
-    let b0 = record::read_block(fields, rate, Subframe::Zero);
-    let b1 = record::read_block(fields, rate, Subframe::One);
-    let b2 = record::read_block(fields, rate, Subframe::Two);
-    let b3 = record::read_block(fields, rate, Subframe::Three);
-    let history = given.exc_hist;
-    let x0 = widths::frame_signal(history);
+    let [b0, b1, b2, b3] = Subframe::ALL.map(|s| record::read_block(fields, rate, s));
+    let x0 = widths::frame_signal(given.exc_hist);
     let x1 = received_subframe(x0, Subframe::Zero, b0);
     let x2 = received_subframe(x1, Subframe::One, b1);
     let x3 = received_subframe(x2, Subframe::Two, b2);
     let signal = received_subframe(x3, Subframe::Three, b3);
     let lags = [b0.base_lag, b1.base_lag, b2.base_lag, b3.base_lag];
     let inputs = received_inputs(&signal, given.postfilter, rate, lags);
-    let taps = b3.taps;
     let last = LastFrame {
         last_lag: b3.lag,
         last_lag2: b2.lag,
-        last_taps_sum_q15: excitation::tap_sum(taps),
+        last_taps_sum_q15: excitation::tap_sum(b3.taps),
         last_gain_unvoiced: excitation::unvoiced_gain(b2.gain_index, b3.gain_index),
         erased_run: 0,
     };
@@ -228,7 +194,7 @@ fn refused(given: State, n: Refusal) -> Answer
     ensures { result ≡ refusal given n }
 {
     Answer {
-        verdict: Verdict::Refused(n),
+        verdict: Err(n),
         state: given,
     }
 }
@@ -246,13 +212,11 @@ pub fn decode(given: State, record: &[u8], samples: &mut [i16]) -> Answer
         return refused(given, Refusal::StateBounds);
     }
     match refusals::examine(record) {
-        Found::Refused(n) => refused(given, n),
-        Found::Erased => decode_erased(samples, given),
-        Found::Received(rate, form) => {
-            let prev = given.prev_lsp;
-            let candidates = candidates_of(record, form, prev);
-            let fields = layout::fields(record, form);
-            decode_received(samples, given, rate, fields, candidates)
+        Err(n) => refused(given, n),
+        Ok(Frame::Erased) => decode_erased(samples, given),
+        Ok(Frame::Received(rate, form)) => {
+            let candidates = candidates_of(record, form, given.prev_lsp);
+            decode_received(samples, given, rate, layout::fields(record, form), candidates)
         }
     }
 }

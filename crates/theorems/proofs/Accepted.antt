@@ -1,4 +1,5 @@
 -- What holds of a record that is received: none of the numbers 6 to 10 applies, and so its lag and step codes are in their limits, and of a High one the pulse descriptions are accepted ones.
+use Rattle.std.specs.Prelude.{Result, Ok, Err}
 use mathlib.Core.Path.{◌≡◌, refl, sym, ap, ◌∙◌, subst}
 use mathlib.Core.Bool.{Bool, true, false, cond, ◌&&◌, ◌||◌}
 use mathlib.Core.List.{List}
@@ -20,8 +21,8 @@ use Rattle.layout.specs.Layout.{fields_of}
 use Rattle.layout.specs.declared.LspForm.{LspForm}
 use Rattle.layout.specs.declared.LspForm.TheVariants.{Values, Index}
 use Rattle.numbers.specs.declared.Refusal.{Refusal}
-use Rattle.refusals.specs.declared.Found.{Found}
-use Rattle.refusals.specs.declared.Found.TheVariants.{Erased, Received, Refused}
+use Rattle.refusals.specs.declared.Frame.{Frame}
+use Rattle.refusals.specs.declared.Frame.TheVariants.{Erased, Received}
 use Rattle.refusals.specs.Refusals.{no_byte, wrong_kind, wrong_length, wrong_lag_code, wrong_step_code, wrong_gain_index, wrong_flags, wrong_signs}
 use Rattle.refusals.specs.Refusals.{any_subframe, wrong_flags_in, wrong_signs_in, found_received, found_of, found}
 use Rattle.integers.specs.Truth.{neither}
@@ -36,17 +37,17 @@ pub record Passed (rate : Rate) (f : List ℕ) : Type 0 where
   pub signs : wrong_signs rate f ≡ false
 
 module _ (r : List ℕ) where
-  abbrev AllPassed : Found → Type 0
-  AllPassed Erased = Unit
-  AllPassed (Received rate form) = Passed rate (fields_of form r)
-  AllPassed (Refused n) = Unit
+  abbrev AllPassed : Result Frame Refusal → Type 0
+  AllPassed (Ok Erased) = Unit
+  AllPassed (Ok (Received rate form)) = Passed rate (fields_of form r)
+  AllPassed (Err n) = Unit
 
   -- a record that is found to be k passed all that k says
-  record FoundToBe (k : Found) : Type 0 where
+  record FoundToBe (k : Result Frame Refusal) : Type 0 where
     passed : AllPassed k
 
   -- a refusal says nothing, and where its test fails the rest has to hold
-  refused_or : (b : Bool) (n : Refusal) {k : Found} → (b ≡ false → FoundToBe k) → FoundToBe (cond b (Refused n) k)
+  refused_or : (b : Bool) (n : Refusal) {k : Result Frame Refusal} → (b ≡ false → FoundToBe k) → FoundToBe (cond b (Err n) k)
   refused_or true n h = record { passed = tt }
   refused_or false n h = h refl
 

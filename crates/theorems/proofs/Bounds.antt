@@ -1,4 +1,6 @@
 -- A state in bounds stays in bounds, whatever the record.
+use Rattle.std.specs.Prelude.{Result, Ok, Err}
+use Rattle.numbers.specs.declared.Refusal.{Refusal}
 use mathlib.Core.Path.{◌≡◌, refl}
 use mathlib.Core.Bool.{Bool, true, false, not, cond}
 use mathlib.Core.List.{List, ◌∷◌}
@@ -20,8 +22,8 @@ use Rattle.record.specs.Record.{block_of}
 use Rattle.refusals.specs.Refusals.{found}
 use Rattle.theorems.proofs.Accepted.{received_passed, Codes, codes}
 use Rattle.numbers.specs.declared.Refusal.TheVariants.{SampleLength, StateBounds}
-use Rattle.refusals.specs.declared.Found.{Found}
-use Rattle.refusals.specs.declared.Found.TheVariants.{Erased, Received, Refused}
+use Rattle.refusals.specs.declared.Frame.{Frame}
+use Rattle.refusals.specs.declared.Frame.TheVariants.{Erased, Received}
 use Rattle.state.specs.State.{last_lag_bounded, last_bounded, in_bounds}
 use Rattle.state.specs.declared.State.{State}
 use Rattle.state.proofs.Bounds as states
@@ -87,16 +89,16 @@ module _ (s : State) (h : in_bounds s ≡ true) where
 -- ---- a record
 
 module _ (s : State) (h : in_bounds s ≡ true) (r : List ℕ) where
-  found_in : (f : Found) → found r ≡ f → in_bounds (answer_to f s r).state ≡ true
+  found_in : (f : Result Frame Refusal) → found r ≡ f → in_bounds (answer_to f s r).state ≡ true
   unfolding answer_to
-  found_in (Refused n) e = h
-  found_in Erased e = erased_in s h
-  found_in (Received rate form) e =
+  found_in (Err n) e = h
+  found_in (Ok Erased) e = erased_in s h
+  found_in (Ok (Received rate form)) e =
       let f = fields_of form r in received_in s h rate f (codes rate f (received_passed r rate form e)) (candidates_of form r s.prev_lsp)
 
   -- by the tests of numbers 1 and 2
   tested_in : (a b : Bool) →
-      in_bounds (answer_to (cond a (Refused SampleLength) (cond b (Refused StateBounds) (found r))) s r).state ≡ true
+      in_bounds (answer_to (cond a (Err SampleLength) (cond b (Err StateBounds) (found r))) s r).state ≡ true
   unfolding answer_to
   tested_in true b = h
   tested_in false true = h

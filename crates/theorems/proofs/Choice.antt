@@ -1,4 +1,5 @@
 -- Over received frames LSPs and excitation follow from those before and the record, lags, tap sum and gain from the record.
+use Rattle.std.specs.Prelude.{Result, Ok, Err}
 use mathlib.Core.Path.{◌≡◌, refl, sym, ap, ◌∙◌, subst}
 use mathlib.Core.Bool.{Bool, true, false, cond, not}
 use mathlib.Core.List.{List, [], ◌∷◌}
@@ -16,8 +17,8 @@ use Rattle.layout.specs.declared.LspForm.{LspForm}
 use Rattle.record.specs.Record.{block_of}
 use Rattle.record.specs.declared.Block.{Block}
 use Rattle.refusals.specs.Refusals.{found}
-use Rattle.refusals.specs.declared.Found.{Found}
-use Rattle.refusals.specs.declared.Found.TheVariants.{Erased, Received, Refused}
+use Rattle.refusals.specs.declared.Frame.{Frame}
+use Rattle.refusals.specs.declared.Frame.TheVariants.{Erased, Received}
 use Rattle.numbers.specs.declared.Refusal.{Refusal}
 use Rattle.numbers.specs.declared.Refusal.TheVariants.{SampleLength, StateBounds}
 use Rattle.widths.specs.Widths.{frame_signal, history_after}
@@ -48,22 +49,22 @@ module _ (s t : State) (k : SameKept s t) (r : List ℕ) where
     gain = refl;
   }
 
-  kept-to : (f : Found) → is_erased f ≡ false → SameKept (answer_to f s r).state (answer_to f t r).state
+  kept-to : (f : Result Frame Refusal) → is_erased f ≡ false → SameKept (answer_to f s r).state (answer_to f t r).state
   unfolding answer_to
-  kept-to (Refused n) h = k
-  kept-to Erased h = absurd (subst T h tt)
-  kept-to (Received rate form) h = kept_received rate form
+  kept-to (Err n) h = k
+  kept-to (Ok Erased) h = absurd (subst T h tt)
+  kept-to (Ok (Received rate form)) h = kept_received rate form
 
 -- ---- what is found of it
 
-refused_or : (b : Bool) (n : Refusal) (f : Found) → is_erased f ≡ false → is_erased (cond b (Refused n) f) ≡ false
+refused_or : (b : Bool) (n : Refusal) (f : Result Frame Refusal) → is_erased f ≡ false → is_erased (cond b (Err n) f) ≡ false
 refused_or true n f h = refl
 refused_or false n f h = h
 
 not_erased : (s : State) (r : List ℕ) (x : List ℤ) → is_erased (found r) ≡ false → is_erased (examined s r x) ≡ false
 unfolding examined
 not_erased s r x h =
-    let rest = cond (not (in_bounds s)) (Refused StateBounds) (found r) in
+    let rest = cond (not (in_bounds s)) (Err StateBounds) (found r) in
     refused_or (not (eqb (length x) frame_size)) SampleLength rest (refused_or (not (in_bounds s)) StateBounds (found r) h)
 
 kept_next :
@@ -72,7 +73,7 @@ kept_next :
 kept_next s t i a b k h =
     let r = i.bytes in
     let x = i.samples in
-    subst (λ (f : Found). SameKept (next s i) (answer_to f t r).state)
+    subst (λ (f : Result Frame Refusal). SameKept (next s i) (answer_to f t r).state)
     (examined-same s t r x (a ∙ sym b)) (kept-to s t k r (examined s r x) (not_erased s r x h))
 
 -- ---- a sequence, of which each state is in bounds

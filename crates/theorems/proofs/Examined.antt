@@ -1,4 +1,6 @@
 -- What a record is found to be depends on the state by its bounds alone.
+use Rattle.std.specs.Prelude.{Result, Ok, Err}
+use Rattle.numbers.specs.declared.Refusal.{Refusal}
 use mathlib.Core.Path.{◌≡◌, ap}
 use mathlib.Core.Bool.{Bool, cond, not}
 use mathlib.Core.List.{List}
@@ -9,7 +11,6 @@ use lib.ListN.{length}
 use Rattle.tables.specs.Constants.{frame_size}
 use Rattle.refusals.specs.Refusals.{found}
 use Rattle.numbers.specs.declared.Refusal.TheVariants.{SampleLength, StateBounds}
-use Rattle.refusals.specs.declared.Found.TheVariants.{Refused}
 use Rattle.state.specs.State.{in_bounds}
 use Rattle.state.specs.declared.State.{State}
 use Rattle.decoder.specs.Decoder.{examined}
@@ -19,4 +20,4 @@ pub examined-same : (s t : State) (r : List ℕ) (x : List ℤ) → in_bounds s 
 unfolding examined
 examined-same s t r x h =
     let wrong = not (eqb (length x) frame_size) in
-    ap (λ (b : Bool). cond wrong (Refused SampleLength) (cond (not b) (Refused StateBounds) (found r))) h
+    ap (λ (b : Bool). cond wrong (Err SampleLength) (cond (not b) (Err StateBounds) (found r))) h

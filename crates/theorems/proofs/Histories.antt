@@ -17,8 +17,7 @@ use Rattle.excitation.specs.Excitation.{subframe_place, with_subframe, in_turn, 
 use Rattle.excitation.specs.declared.Subframe.{Subframe}
 use Rattle.excitation.specs.declared.Subframe.TheVariants.{Zero, One, Two, Three}
 use Rattle.adaptive.specs.Adaptive.{limited_lag, adaptive}
-use Rattle.voicing.specs.declared.Voicing.{Voicing}
-use Rattle.voicing.specs.declared.Voicing.TheVariants.{Unvoiced, Voiced}
+use Rattle.std.specs.Prelude.{Option, Some, None}
 use Rattle.noise.specs.Noise.{attenuated, start_word, word_after, noise_subframe}
 use Rattle.erasure.specs.Erasure.{replayed, erased_excitation}
 use Rattle.record.specs.declared.Block.{Block}
@@ -115,13 +114,13 @@ history-words x w =
 
 -- ---- of an erased and of a received frame
 
-pub erased_words : (v : Voicing) (sum gain : ℤ) (run : ℕ) (h : List ℤ) →
+pub erased_words : (v : Option ℕ) (sum gain : ℤ) (run : ℕ) (h : List ℤ) →
     WordsTo 386 (erased_excitation v sum gain run (frame_signal h))
 unfolding erased_excitation
-erased_words Unvoiced sum gain run h =
+erased_words None sum gain run h =
     words_turns (λ x k. noise_subframe (attenuated gain run) (word_after (start_word run) (subframe_place k - 146)))
     (λ x k. noise_sixty (attenuated gain run) (word_after (start_word run) (subframe_place k - 146))) (frame_signal h) (signal_length h)
-erased_words (Voiced lag) sum gain run h =
+erased_words (Some lag) sum gain run h =
     words_turns (λ x k. replayed x (subframe_place k) (limited_lag (pos lag)) (attenuated sum run))
     (λ x k. replay_sixty x (subframe_place k) (limited_lag (pos lag)) (attenuated sum run)) (frame_signal h) (signal_length h)
 

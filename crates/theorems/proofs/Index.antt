@@ -1,4 +1,5 @@
 -- Candidates of an index: by the rules of the codebooks, and written out as the values of another record.
+use Rattle.std.specs.Prelude.{Result, Ok, Err}
 use mathlib.Core.Path.{◌≡◌, refl, sym, ap, ◌∙◌, subst}
 use mathlib.Core.Bool.{Bool, true, false, cond, not}
 use mathlib.Core.List.{List, [], ◌∷◌, ◌++◌}
@@ -35,8 +36,8 @@ use Rattle.numbers.specs.declared.Refusal.{Refusal}
 use Rattle.numbers.specs.declared.Refusal.TheVariants.{SampleLength, StateBounds, NoByte, Kind, Length, LagCode, StepCode, GainIndex, Flags, Signs}
 use Rattle.refusals.specs.Refusals.{record_bytes, wrong_lag_code, wrong_step_code, wrong_gain_index, wrong_flags, wrong_signs}
 use Rattle.refusals.specs.Refusals.{found_received, found_of, found, number_found, kind_of}
-use Rattle.refusals.specs.declared.Found.{Found}
-use Rattle.refusals.specs.declared.Found.TheVariants.{Received, Refused}
+use Rattle.refusals.specs.declared.Frame.{Frame}
+use Rattle.refusals.specs.declared.Frame.TheVariants.{Received}
 use Rattle.state.specs.State.{fresh_state, in_bounds}
 use Rattle.state.specs.declared.State.{State}
 use Rattle.decoder.specs.Frame.{candidates_of, frame_state, received_checked, received_samples, received_state}
@@ -95,7 +96,7 @@ unfolding answer_to frame_state received_state fresh_state
 index-zero = record {
   candidates = λ on r z. zero-candidates r z;
   stored = λ on rate i z e.
-      ap (λ (f : Found). (answer_to f (fresh_state on) i.bytes).state.prev_lsp) e
+      ap (λ (f : Result Frame Refusal). (answer_to f (fresh_state on) i.bytes).state.prev_lsp) e
       ∙ ap (λ (l : List ℤ). (check_or_previous (pos lsp_minimum) l mean_lsps).lsps) (zero-candidates i.bytes z) ∙ mean_stable;
 }
 
@@ -143,14 +144,14 @@ some_byte (b ∷ r) h = ne_eqb (length (b ∷ r)) 0 (λ e. let z : ⊥ = omega (
 
 -- numbers 3 and 4 do not apply; 5 to 10 follow
 found-by_kind : (r : List ℕ) (rate : Rate) (form : LspForm) → byte r 0 ≡ kind_of rate form →
-    found r ≡ cond (not (eqb (length r) (record_bytes (kind_of rate form)))) (Refused Length) (found_received rate form (fields_of form r))
+    found r ≡ cond (not (eqb (length r) (record_bytes (kind_of rate form)))) (Err Length) (found_received rate form (fields_of form r))
 unfolding found
 found-by_kind r rate form e =
     let k = kind_known rate form in
     let some = some_byte r (omega (arith, k.0, e)) in
     let known = le-ltb kind_max (byte r 0) (omega (arith, k.1, e)) in
-    let sized : ℕ → Found → Found = λ n f. cond (not (eqb (length r) (record_bytes n))) (Refused Length) f in
-    (λ i. cond (some i) (Refused NoByte) (cond (known i) (Refused Kind) (sized (e i) (found_of (e i) r))))
+    let sized : ℕ → Result Frame Refusal → Result Frame Refusal = λ n f. cond (not (eqb (length r) (record_bytes n))) (Err Length) f in
+    (λ i. cond (some i) (Err NoByte) (cond (known i) (Err Kind) (sized (e i) (found_of (e i) r))))
     ∙ ap (sized (kind_of rate form)) (found_of_lem rate form r)
 
 -- ---- a record of kind 3 or 4, and the one with its candidates written out
@@ -191,18 +192,18 @@ module _ (s : State) (rate : Rate) (r : List ℕ) (x : List ℤ) where
   kind_other = refl
 
   -- what follows from F of the record, and from G of the other
-  record Alike (F G : Found) : Type 0 where
+  record Alike (F G : Result Frame Refusal) : Type 0 where
     answer : answer_to F s r ≡ answer_to G s other
     number : number_found F ≡ number_found G
     samples : samples_to F s r x ≡ samples_to G s other x
 
   -- a test that both pass or fail
-  refused_or : (b : Bool) (n : Refusal) {F G : Found} → Alike F G → Alike (cond b (Refused n) F) (cond b (Refused n) G)
+  refused_or : (b : Bool) (n : Refusal) {F G : Result Frame Refusal} → Alike F G → Alike (cond b (Err n) F) (cond b (Err n) G)
   unfolding answer_to samples_to
   refused_or true n h = record { answer = refl; number = refl; samples = refl }
   refused_or false n h = h
 
-  alike_received : Alike (Received rate Index) (Received rate Values)
+  alike_received : Alike (Ok (Received rate Index)) (Ok (Received rate Values))
   unfolding answer_to samples_to
   alike_received = record {
     answer = λ i. let c = sym values_same i in acceptance (received_checked s c).outcome (received_state s rate (sym fields_same i) c);
@@ -222,11 +223,11 @@ module _ (s : State) (rate : Rate) (r : List ℕ) (x : List ℤ) where
       let test = not (eqb (length r) (record_bytes (kind_of rate Index))) in
       let tested : test ≡ not (eqb (length other) (record_bytes (kind_of rate Values))) =
       ap not (same_lengths rate (length r) ∙ ap (λ (n : ℕ). eqb n (record_bytes (kind_of rate Values))) (sym length-other)) in
-      let there : cond test (Refused Length) (found_received rate Values f) ≡ found other =
-      (λ i. cond (tested i) (Refused Length) (found_received rate Values (sym fields_same i)))
+      let there : cond test (Err Length) (found_received rate Values f) ≡ found other =
+      (λ i. cond (tested i) (Err Length) (found_received rate Values (sym fields_same i)))
       ∙ sym (found-by_kind other rate Values kind_other) in
-      subst (λ (F : Found). Alike F (found other)) (sym (found-by_kind r rate Index e))
-      (subst (Alike (cond test (Refused Length) (found_received rate Index f))) there (refused_or test Length (alike_fields f)))
+      subst (λ (F : Result Frame Refusal). Alike F (found other)) (sym (found-by_kind r rate Index e))
+      (subst (Alike (cond test (Err Length) (found_received rate Index f))) there (refused_or test Length (alike_fields f)))
 
   alike : byte r 0 ≡ kind_of rate Index → Alike (examined s r x) (examined s other x)
   unfolding examined

@@ -1,12 +1,14 @@
 -- No frame reads the stored lag of subframe 3: an erased one hands it on, and a received one sets it.
+use Rattle.std.specs.Prelude.{Result, Ok, Err}
+use Rattle.numbers.specs.declared.Refusal.{Refusal}
 use mathlib.Core.Path.{◌≡◌, refl, sym, ap, ◌∙◌}
 use mathlib.Core.Bool.{Bool, cond, ◌&&◌}
 use mathlib.Core.List.{List, [], ◌∷◌}
 use Prim.Native.Nat.{ℕ}
 use lib.IntN.{ℤ}
 use lib.ListN.{get_or, drop}
-use Rattle.refusals.specs.declared.Found.{Found}
-use Rattle.refusals.specs.declared.Found.TheVariants.{Erased, Received, Refused}
+use Rattle.refusals.specs.declared.Frame.{Frame}
+use Rattle.refusals.specs.declared.Frame.TheVariants.{Erased, Received}
 use Rattle.state.specs.State.{is_in_bounds, are_in_bounds, last_lag_bounded, bounded_numbers, in_bounds}
 use Rattle.state.specs.declared.State.{State}
 use Rattle.state.proofs.Bounds.{is_history, is_memory, numbers_of}
@@ -41,30 +43,30 @@ same_test s l k =
 -- ---- what follows from what the record is found to be
 
 module _ (s : State) (l : ℤ) (r : List ℕ) where
-  verdict_to : (f : Found) → (answer_to f (with_last_lag l s) r).verdict ≡ (answer_to f s r).verdict
+  verdict_to : (f : Result Frame Refusal) → (answer_to f (with_last_lag l s) r).verdict ≡ (answer_to f s r).verdict
   unfolding answer_to
-  verdict_to (Refused n) = refl
-  verdict_to Erased = refl
-  verdict_to (Received rate form) = refl
+  verdict_to (Err n) = refl
+  verdict_to (Ok Erased) = refl
+  verdict_to (Ok (Received rate form)) = refl
 
-  samples-to : (x : List ℤ) (f : Found) → samples_to f (with_last_lag l s) r x ≡ samples_to f s r x
+  samples-to : (x : List ℤ) (f : Result Frame Refusal) → samples_to f (with_last_lag l s) r x ≡ samples_to f s r x
   unfolding samples_to erased_samples received_samples
-  samples-to x (Refused n) = refl
-  samples-to x Erased = refl
-  samples-to x (Received rate form) = refl
+  samples-to x (Err n) = refl
+  samples-to x (Ok Erased) = refl
+  samples-to x (Ok (Received rate form)) = refl
 
   state-to :
-      (f : Found) (m : ℤ) → with_last_lag m (answer_to f (with_last_lag l s) r).state ≡ with_last_lag m (answer_to f s r).state
+      (f : Result Frame Refusal) (m : ℤ) → with_last_lag m (answer_to f (with_last_lag l s) r).state ≡ with_last_lag m (answer_to f s r).state
   unfolding answer_to frame_state erased_state received_state
-  state-to (Refused n) m = refl
-  state-to Erased m = refl
-  state-to (Received rate form) m = refl
+  state-to (Err n) m = refl
+  state-to (Ok Erased) m = refl
+  state-to (Ok (Received rate form)) m = refl
 
-  test_to : (f : Found) → SameTest s l → SameTest (answer_to f s r).state (answer_to f (with_last_lag l s) r).state.last_lag
+  test_to : (f : Result Frame Refusal) → SameTest s l → SameTest (answer_to f s r).state (answer_to f (with_last_lag l s) r).state.last_lag
   unfolding answer_to frame_state erased_state received_state
-  test_to (Refused n) h = h
-  test_to Erased h = h
-  test_to (Received rate form) h = refl
+  test_to (Err n) h = h
+  test_to (Ok Erased) h = h
+  test_to (Ok (Received rate form)) h = refl
 
 -- ---- one record
 
@@ -77,17 +79,17 @@ module _ (s : State) (l : ℤ) (i : Item) (h : SameTest s l) where
 
   verdict_same : (answer_of other i.bytes i.samples).verdict ≡ (answer_of s i.bytes i.samples).verdict
   verdict_same =
-      ap (λ (f : Found). (answer_to f other i.bytes).verdict) found-same
+      ap (λ (f : Result Frame Refusal). (answer_to f other i.bytes).verdict) found-same
       ∙ verdict_to s l i.bytes (examined s i.bytes i.samples)
 
   samples-same : samples_of other i.bytes i.samples ≡ samples_of s i.bytes i.samples
   samples-same =
-      ap (λ (f : Found). samples_to f other i.bytes i.samples) found-same
+      ap (λ (f : Result Frame Refusal). samples_to f other i.bytes i.samples) found-same
       ∙ samples-to s l i.bytes i.samples (examined s i.bytes i.samples)
 
   state-same : (m : ℤ) → with_last_lag m (next other i) ≡ with_last_lag m (next s i)
   state-same m =
-      ap (λ (f : Found). with_last_lag m (answer_to f other i.bytes).state) found-same
+      ap (λ (f : Result Frame Refusal). with_last_lag m (answer_to f other i.bytes).state) found-same
       ∙ state-to s l i.bytes (examined s i.bytes i.samples) m
 
   -- the lag that it then has
@@ -96,7 +98,7 @@ module _ (s : State) (l : ℤ) (i : Item) (h : SameTest s l) where
 
   test_next : SameTest (next s i) next_lag
   test_next =
-      ap (λ (f : Found). is_lag (answer_to f other i.bytes).state.last_lag) found-same
+      ap (λ (f : Result Frame Refusal). is_lag (answer_to f other i.bytes).state.last_lag) found-same
       ∙ test_to s l i.bytes (examined s i.bytes i.samples) h
 
   state-next : next other i ≡ with_last_lag next_lag (next s i)

@@ -1,4 +1,6 @@
 -- A refused record changes nothing, and a sequence has the samples of its accepted records alone.
+use Rattle.std.specs.Prelude.{Result, Ok, Err}
+use Rattle.numbers.specs.declared.Refusal.{Refusal}
 use mathlib.Core.Path.{◌≡◌, refl, sym, ap, ◌∙◌, subst}
 use mathlib.Core.Bool.{Bool, true, false, cond}
 use mathlib.Core.List.{List, [], ◌∷◌}
@@ -7,8 +9,8 @@ use lib.Dec.{T}
 use lib.IntN.{ℤ}
 use lib.ListN.{length}
 use Rattle.state.specs.declared.State.{State}
-use Rattle.refusals.specs.declared.Found.{Found}
-use Rattle.refusals.specs.declared.Found.TheVariants.{Erased, Received, Refused}
+use Rattle.refusals.specs.declared.Frame.{Frame}
+use Rattle.refusals.specs.declared.Frame.TheVariants.{Erased, Received}
 use Rattle.decoder.specs.Decoder.{examined, answer_to, samples_to, samples_of}
 use Rattle.theorems.specs.Call.{Item, next, is_accepted, accepted, after, accepted_samples, accepted_only}
 use Rattle.theorems.specs.Refused.{RefusalKeeps, AcceptedAlone}
@@ -16,12 +18,12 @@ use Rattle.theorems.specs.Refused.{RefusalKeeps, AcceptedAlone}
 -- ---- one record
 
 keeps :
-    (f : Found) (s : State) (r : List ℕ) (x : List ℤ) → is_accepted (answer_to f s r).verdict ≡ false
+    (f : Result Frame Refusal) (s : State) (r : List ℕ) (x : List ℤ) → is_accepted (answer_to f s r).verdict ≡ false
     → ((answer_to f s r).state ≡ s) × (samples_to f s r x ≡ x)
 unfolding answer_to samples_to
-keeps (Refused n) s r x h = (refl, refl)
-keeps Erased s r x h = absurd (subst T h tt)
-keeps (Received rate form) s r x h = absurd (subst T h tt)
+keeps (Err n) s r x h = (refl, refl)
+keeps (Ok Erased) s r x h = absurd (subst T h tt)
+keeps (Ok (Received rate form)) s r x h = absurd (subst T h tt)
 
 pub refusal_keeps : RefusalKeeps
 refusal_keeps s i h = keeps (examined s i.bytes i.samples) s i.bytes i.samples h

@@ -1,9 +1,9 @@
 -- Records one after the other, of which the theorems speak.
-use Rattle.std.specs.Prelude.{Bool, true, false, cond, List, [], ◌∷◌, ℕ, ℤ}
+use Rattle.std.specs.Prelude.{Bool, true, false, cond, Result, Ok, Err, List, [], ◌∷◌, ℕ, ℤ}
 use Rattle.state.specs.declared.State.{State}
 use Rattle.decoder.specs.Decoder.{answer_of, samples_of}
-use Rattle.verdict.specs.declared.Verdict.{Verdict}
-use Rattle.verdict.specs.declared.Verdict.TheVariants.{Accepted, Refused}
+use Rattle.stability.specs.declared.Outcome.{Outcome}
+use Rattle.numbers.specs.declared.Refusal.{Refusal}
 
 -- a record's bytes, and the samples that the decoder is lent for it
 pub record Item : Type 0 where
@@ -14,9 +14,9 @@ pub record Item : Type 0 where
 abbrev pub next : State → Item → State
 next s i = (answer_of s i.bytes i.samples).state
 
-abbrev pub is_accepted : Verdict → Bool
-is_accepted (Accepted o) = true
-is_accepted (Refused n) = false
+abbrev pub is_accepted : Result Outcome Refusal → Bool
+is_accepted (Ok o) = true
+is_accepted (Err n) = false
 
 -- whether it is accepted
 abbrev pub accepted : State → Item → Bool

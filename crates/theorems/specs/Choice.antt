@@ -1,8 +1,9 @@
 -- Over received frames alone, two runs that differ in the postfilter choice keep equal LSPs, excitation history, lags, tap sum and unvoiced gain (document 01, "Frame"; proofs/Choice.antt).
-use Rattle.std.specs.Prelude.{◌≡◌, Bool, true, false, List, [], ◌∷◌}
+use Rattle.std.specs.Prelude.{Result, Ok, Err, ◌≡◌, Bool, true, false, List, [], ◌∷◌}
+use Rattle.numbers.specs.declared.Refusal.{Refusal}
 use Rattle.refusals.specs.Refusals.{found}
-use Rattle.refusals.specs.declared.Found.{Found}
-use Rattle.refusals.specs.declared.Found.TheVariants.{Erased, Received, Refused}
+use Rattle.refusals.specs.declared.Frame.{Frame}
+use Rattle.refusals.specs.declared.Frame.TheVariants.{Erased, Received}
 use Rattle.state.specs.State.{fresh_state, in_bounds}
 use Rattle.state.specs.declared.State.{State}
 use Rattle.theorems.specs.Call.{Item, after}
@@ -16,10 +17,10 @@ pub record SameKept (s t : State) : Type 0 where
   pub tap_sum : s.last_taps_sum_q15 ≡ t.last_taps_sum_q15
   pub gain : s.last_gain_unvoiced ≡ t.last_gain_unvoiced
 
-abbrev pub is_erased : Found → Bool
-is_erased Erased = true
-is_erased (Received rate form) = false
-is_erased (Refused n) = false
+abbrev pub is_erased : Result Frame Refusal → Bool
+is_erased (Ok Erased) = true
+is_erased (Ok (Received rate form)) = false
+is_erased (Err n) = false
 
 -- no record is an erased one
 abbrev pub NoneErased : List Item → Type 0

@@ -1,5 +1,6 @@
 -- The pulse descriptions of an accepted High record are accepted ones, and the fixed vector that the decoder adds in a subframe is that of its description: so the theorem on equal vectors (demand 3) speaks of the vectors that the decoder makes (document 01, "Pulses"; proofs/Descriptions.antt).
-use Rattle.std.specs.Prelude.{◌≡◌, List, ℕ}
+use Rattle.std.specs.Prelude.{Result, Ok, Err, ◌≡◌, List, ℕ}
+use Rattle.numbers.specs.declared.Refusal.{Refusal}
 use Rattle.pulses.specs.Pulses.{vector}
 use Rattle.vectors.specs.Vectors.{Accepted}
 use Rattle.excitation.specs.declared.Subframe.{Subframe}
@@ -8,7 +9,7 @@ use Rattle.layout.specs.Layout.{fields_of}
 use Rattle.layout.specs.declared.LspForm.{LspForm}
 use Rattle.record.specs.Record.{description, block_of}
 use Rattle.refusals.specs.Refusals.{found}
-use Rattle.refusals.specs.declared.Found.TheVariants.{Received}
+use Rattle.refusals.specs.declared.Frame.TheVariants.{Received}
 
 abbrev pub AcceptedDescriptions : Type 0
 AcceptedDescriptions =

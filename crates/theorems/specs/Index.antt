@@ -1,5 +1,6 @@
 -- Records that give their candidate LSPs by an index (document 02, E1; proofs/Index.antt).
-use Rattle.std.specs.Prelude.{◌≡◌, Bool, List, [], ◌∷◌, ◌++◌, ℕ, ◌/◌, ◌%◌, ◌<◌, ℤ, ◌+ℤ◌}
+use Rattle.std.specs.Prelude.{Result, Ok, Err, ◌≡◌, Bool, List, [], ◌∷◌, ◌++◌, ℕ, ◌/◌, ◌%◌, ◌<◌, ℤ, ◌+ℤ◌}
+use Rattle.numbers.specs.declared.Refusal.{Refusal}
 use Rattle.integers.specs.Base.{entry, tabulate}
 use Rattle.tables.specs.Constants.{lpc_order, codebook_rows, band0_place, band1_place, band2_place}
 use Rattle.tables.specs.Tables.{mean_lsps}
@@ -11,7 +12,7 @@ use Rattle.reader.specs.Fields.{byte}
 use Rattle.layout.specs.Layout.{fields_of}
 use Rattle.layout.specs.declared.LspForm.TheVariants.{Values, Index}
 use Rattle.refusals.specs.Refusals.{kind_of}
-use Rattle.refusals.specs.declared.Found.TheVariants.{Received}
+use Rattle.refusals.specs.declared.Frame.TheVariants.{Received}
 use Rattle.state.specs.State.{fresh_state}
 use Rattle.state.specs.declared.State.{State}
 use Rattle.decoder.specs.Frame.{candidates_of}

@@ -1,4 +1,6 @@
 -- The tallies count the numbers of the lines.
+use Rattle.std.specs.Prelude.{Result, Ok, Err}
+use Rattle.numbers.specs.declared.Refusal.{Refusal}
 use mathlib.Core.Path.{◌≡◌, refl, sym, subst, ◌∙◌}
 use mathlib.Core.Bool.{Bool, true, false, cond}
 use mathlib.Core.List.{List, [], ◌∷◌}
@@ -13,8 +15,8 @@ use Rattle.tables.specs.Constants.{numbers_counted}
 use Rattle.counts.specs.Counts.{how_many, most, counted}
 use Rattle.refusals.specs.Refusals.{number_found}
 use Rattle.decoder.specs.Decoder.{examined}
-use Rattle.refusals.specs.declared.Found.{Found}
-use Rattle.refusals.specs.declared.Found.TheVariants.{Erased, Received, Refused}
+use Rattle.refusals.specs.declared.Frame.{Frame}
+use Rattle.refusals.specs.declared.Frame.TheVariants.{Erased, Received}
 use Rattle.numbers.specs.declared.Refusal.TheVariants.{SampleLength, StateBounds, NoByte, Kind, Length, LagCode, StepCode, GainIndex, Flags, Signs}
 use Rattle.state.specs.declared.State.{State}
 use Rattle.lines.specs.Replies.{lent_samples, number_for, line_number, line_state, is_record_line}
@@ -29,19 +31,19 @@ counted_all ts (n ∷ ns) = counted_all (counted ts n) ns
 
 -- ---- every number has its place
 
-below : (f : Found) → number_found f < numbers_counted
-below (Refused SampleLength) = omega arith
-below (Refused StateBounds) = omega arith
-below (Refused NoByte) = omega arith
-below (Refused Kind) = omega arith
-below (Refused Length) = omega arith
-below (Refused LagCode) = omega arith
-below (Refused StepCode) = omega arith
-below (Refused GainIndex) = omega arith
-below (Refused Flags) = omega arith
-below (Refused Signs) = omega arith
-below Erased = omega arith
-below (Received rate form) = omega arith
+below : (f : Result Frame Refusal) → number_found f < numbers_counted
+below (Err SampleLength) = omega arith
+below (Err StateBounds) = omega arith
+below (Err NoByte) = omega arith
+below (Err Kind) = omega arith
+below (Err Length) = omega arith
+below (Err LagCode) = omega arith
+below (Err StepCode) = omega arith
+below (Err GainIndex) = omega arith
+below (Err Flags) = omega arith
+below (Err Signs) = omega arith
+below (Ok Erased) = omega arith
+below (Ok (Received rate form)) = omega arith
 
 number-below : (b : Bool) (bytes : List ℕ) (s : State) → number_for b bytes s < numbers_counted
 unfolding number_for

@@ -1,4 +1,6 @@
 -- Document 01's whole case, computed from the definition of the output.
+use Rattle.std.specs.Prelude.{Result, Ok, Err}
+use Rattle.numbers.specs.declared.Refusal.{Refusal}
 use mathlib.Core.Path.{◌≡◌, ap}
 use mathlib.Core.Bool.{Bool, true, cond, not}
 use mathlib.Core.List.{List, [], ◌∷◌, ◌++◌}
@@ -6,7 +8,6 @@ use Prim.Native.Nat.{ℕ, min}
 use Rattle.integers.specs.Base.{tabulate}
 use Rattle.counts.specs.Counts.{how_many, most, decimal_in, count_line, count_lines, seen_below, closing}
 use Rattle.refusals.specs.Refusals.{found_of, found, record_number, number_found}
-use Rattle.refusals.specs.declared.Found.TheVariants.{Refused}
 use Rattle.numbers.specs.declared.Refusal.TheVariants.{StateBounds}
 use Rattle.state.specs.State.{fresh_state, in_bounds}
 use Rattle.state.specs.declared.State.{State}
@@ -21,7 +22,7 @@ use Rattle.theorems.proofs.Bounds.{fresh_in_bounds, stays_in_bounds}
 -- from a state in bounds, where number 2 is not given, a record has its own number
 own-number : (s : State) (bytes : List ℕ) → in_bounds s ≡ true → number_for true bytes s ≡ record_number bytes
 unfolding number_for examined
-own-number s bytes h = ap (λ (b : Bool). number_found (cond (not b) (Refused StateBounds) (found bytes))) h
+own-number s bytes h = ap (λ (b : Bool). number_found (cond (not b) (Err StateBounds) (found bytes))) h
 
 -- ---- its lines are records of the bytes 0 and 9, and of none
 

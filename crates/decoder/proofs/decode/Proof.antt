@@ -1,9 +1,11 @@
+use Rattle.std.specs.Prelude.{Result, Ok, Err}
+use Rattle.numbers.specs.declared.Refusal.{Refusal}
 use mathlib.Core.Path.{◌≡◌, sym, ◌∙◌}
 use mathlib.Core.Bool.{true}
 use borrow.Author.Rules.{rules}
 use lib.ListN.{length}
 use Rattle.numbers.specs.declared.Refusal.TheVariants.{SampleLength, StateBounds}
-use Rattle.refusals.specs.declared.Found.{Found}
+use Rattle.refusals.specs.declared.Frame.{Frame}
 use Rattle.state.specs.State.{in_bounds}
 use Rattle.decoder.specs.Frame.{received_checked, received_samples, received_state}
 use Rattle.decoder.specs.Decoder.{examined, acceptance}
@@ -25,7 +27,7 @@ module _ (c : tie.After-examine) where
   sound = let t = c.before.before.in_bounds in sym t.ensures ∙ c.before.if-not-in_bounds.false
 
   -- what it is found to be
-  found-is : {k : Found} → c.examine.result ≡ k → let a = start.args in
+  found-is : {k : Result Frame Refusal} → c.examine.result ≡ k → let a = start.args in
       examined a.given a.«record».now a.samples.now ≡ k
   found-is e =
       let a = start.args in
