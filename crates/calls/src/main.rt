@@ -47,8 +47,8 @@ impl Turn {
 
 fn outcome_code(v: Verdict) -> u8 {
     match v {
-        Verdict::Accepted(outcome) => stability::outcome_code(outcome),
-        Verdict::Refused(_) => NO_OUTCOME,
+        Ok(outcome) => u8::from(outcome),
+        Err(_) => NO_OUTCOME,
     }
 }
 
