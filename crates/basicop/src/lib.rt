@@ -1,73 +1,42 @@
 // The basic operators of ITU-T G.191 on 16 bits that the decoder calls, under the Rust's names (basicop.rs).
 #![tactic(auto)]
 
-ghost use Rattle.std.specs.Prelude.{◌≡◌, ◌^◌, pos, nat_abs, ◌*ℤ◌};
-ghost use Rattle.integers.specs.Base.{floor_div};
-ghost use Rattle.basicop.specs.Operators.{word16, add16, sub16, mult16, shl16, shr16};
+ghost use Rattle.std.specs.Prelude.{◌≡◌};
+ghost use Rattle.basicop.specs.Operators.{word16, scaled, add16, sub16, mult16, shl16, shr16};
 
 pub fn saturate(x: i32) -> i16
     ensures { result ≡ word16 x }
 {
-    if x > 32767 {
-        32767
-    } else if x < -32768 {
-        -32768
-    } else {
-        x as i16
-    }
+    x.clamp(-32768, 32767) as i16
 }
 
 pub fn add(a: i16, b: i16) -> i16
     ensures { result ≡ add16 a b }
 {
-    saturate(a as i32 + b as i32)
+    saturate(i32::from(a) + i32::from(b))
 }
 
 pub fn sub(a: i16, b: i16) -> i16
     ensures { result ≡ sub16 a b }
 {
-    saturate(a as i32 - b as i32)
+    saturate(i32::from(a) - i32::from(b))
 }
 
 pub fn mult(a: i16, b: i16) -> i16
     ensures { result ≡ mult16 a b }
 {
-    saturate((a as i32 * b as i32) >> 15)
+    saturate((i32::from(a) * i32::from(b)) >> 15)
 }
 
-// The size of a count, in 64 bits since the least one has no negative of its type.
-fn count_size(n: i32) -> u32
-    ensures { result ≡ nat_abs n }
+// The number times 2^n, limited, and for a negative n the floor of its quotient. A count beyond 15 does as 15.
+fn scaled(a: i16, n: i64) -> i16
+    ensures { result ≡ word16 (scaled a n) }
 {
-    let m = n as i64;
-    if m < 0 { (-m) as u32 } else { m as u32 }
-}
-
-// The number times 2^n, limited.
-fn scaled_up(a: i16, n: u32) -> i16
-    ensures { result ≡ word16 (a *ℤ pos (2 ^ n)) }
-{
-    if n < 15 {
-        saturate(a as i32 * (1u32 << n) as i32)
-    } else if a > 0 {
-        i16::MAX
-    } else if a < 0 {
-        i16::MIN
+    let size = n.unsigned_abs().min(15);
+    if n < 0 {
+        a >> size
     } else {
-        0
-    }
-}
-
-// The floor of the number over 2^n.
-fn scaled_down(a: i16, n: u32) -> i16
-    ensures { result ≡ floor_div a (2 ^ n) }
-{
-    if n < 16 {
-        a >> n
-    } else if a < 0 {
-        -1
-    } else {
-        0
+        saturate(i32::from(a) * (1 << size))
     }
 }
 
@@ -75,19 +44,12 @@ fn scaled_down(a: i16, n: u32) -> i16
 pub fn shl(a: i16, n: i32) -> i16
     ensures { result ≡ shl16 a n }
 {
-    if n < 0 {
-        scaled_down(a, count_size(n))
-    } else {
-        scaled_up(a, count_size(n))
-    }
+    scaled(a, i64::from(n))
 }
 
+// In 64 bits, since the least count has no negative of its type.
 pub fn shr(a: i16, n: i32) -> i16
     ensures { result ≡ shr16 a n }
 {
-    if n < 0 {
-        scaled_up(a, count_size(n))
-    } else {
-        scaled_down(a, count_size(n))
-    }
+    scaled(a, -i64::from(n))
 }

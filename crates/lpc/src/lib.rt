@@ -3,21 +3,20 @@
 
 ghost use Rattle.std.specs.Prelude.{◌≡◌, ◌<◌, ◌^◌};
 ghost use Rattle.integers.specs.Base.{entry, tabulate, up, Within, AllWithin};
-ghost use Rattle.tables.specs.Tables.{cosines};
 ghost use Rattle.lpc.specs.Lpc.{cosine, coefficient_before, factor_term, times_factor, polynomial, rounded_sum, coefficients, frame_coefficients};
 
 // The place of an LSP in the table, in 128ths of its steps. Negative LSPs occur: stabilising holds gaps, not places.
 fn table_place(freq: i16) -> usize
     ensures { result ≡ up freq }
 {
-    if freq < 0 { 0 } else { freq as usize }
+    freq.max(0) as usize
 }
 
 // The cosine of an LSP. An LSP of 16 bits is at most at entry 255, so that there is a next one.
-fn cos_at(table: &[i16; 512], freq: i16) -> i16
-    requires { table.now ≡ cosines }
+pub fn cos_q14(freq: i16) -> i16
     ensures { result ≡ cosine freq }
 {
+    let table = tables::lsp_cosines();
     let place = table_place(freq);
     let idx = place / 128;
     let frac = (place % 128) as i16;
@@ -27,13 +26,6 @@ fn cos_at(table: &[i16; 512], freq: i16) -> i16
         base,
         basicop::mult(basicop::sub(next, base), basicop::shl(frac, 8)),
     )
-}
-
-pub fn cos_q14(freq: i16) -> i16
-    ensures { result ≡ cosine freq }
-{
-    let table = tables::lsp_cosines();
-    cos_at(&table, freq)
 }
 
 // The coefficient d places before i, 0 before the first.
@@ -51,38 +43,25 @@ fn term(c: i16, x: i64, y: i64, z: i64) -> i64
     requires within_3 { Within (2 ^ 37) z }
     ensures { result ≡ factor_term c x y z }
 {
-    x - ((y * c as i64) >> 13) + z
+    x - ((y * i64::from(c)) >> 13) + z
 }
 
 fn times_factor(p: [i64; 11], c: i16) -> [i64; 11]
     requires { AllWithin (2 ^ 37) p }
     ensures { result ≡ tabulate (times_factor (entry p) c) 11 }
 {
-    let mut q = [0i64; 11];
-    let mut i: usize = 0;
-    while i < tables::LPC_PLACES {
-        let y = earlier(&p, i, 1);
-        let z = earlier(&p, i, 2);
-        q[i] = term(c, p[i], y, z);
-        i += 1;
-    }
-    q
+    std::array::from_fn(|i| term(c, p[i], earlier(&p, i, 1), earlier(&p, i, 2)))
 }
 
 // The product of the five factors of every second LSP.
-fn expanded(table: &[i16; 512], lsp: [i16; 10], first: usize) -> [i64; 11]
-    requires table_value { table.now ≡ cosines }
-    requires first_bound { first < 2 }
+fn expanded(lsp: [i16; 10], first: usize) -> [i64; 11]
+    requires { first < 2 }
     ensures { result ≡ tabulate (polynomial lsp first) 11 }
 {
     let mut p = [0i64; 11];
     p[0] = tables::LPC_ONE_Q24;
-    let mut k: usize = 0;
-    while k < tables::LPC_FACTORS {
-        let c = cos_at(table, lsp[2 * k + first]);
-        let q = times_factor(p, c);
-        p = q;
-        k += 1;
+    for k in 0..tables::LPC_FACTORS {
+        p = times_factor(p, cos_q14(lsp[2 * k + first]));
     }
     p
 }
@@ -99,40 +78,16 @@ fn rounded_q13(p1: i64, p0: i64, q1: i64, q0: i64) -> i16
     basicop::saturate(((1024 - (sum >> 1)) >> 11) as i32)
 }
 
-// A set, from a table that is made once for all of a frame's.
-fn lpc_of(table: &[i16; 512], lsp: [i16; 10]) -> [i16; 10]
-    requires { table.now ≡ cosines }
-    ensures { result ≡ coefficients lsp }
-{
-    let pz = expanded(table, lsp, 0);
-    let qz = expanded(table, lsp, 1);
-    let mut a = [0i16; 10];
-    let mut j: usize = 0;
-    while j < tables::LPC_ORDER {
-        a[j] = rounded_q13(pz[j + 1], pz[j], qz[j + 1], qz[j]);
-        j += 1;
-    }
-    a
-}
-
 pub fn lsp_to_lpc_q13(lsp: [i16; 10]) -> [i16; 10]
     ensures { result ≡ coefficients lsp }
 {
-    let table = tables::lsp_cosines();
-    lpc_of(&table, lsp)
+    let pz = expanded(lsp, 0);
+    let qz = expanded(lsp, 1);
+    std::array::from_fn(|j| rounded_q13(pz[j + 1], pz[j], qz[j + 1], qz[j]))
 }
 
 pub fn frame_lpc_q13(prev: [i16; 10], cur: [i16; 10]) -> [[i16; 10]; 4]
     ensures { result ≡ frame_coefficients prev cur }
 {
-    let table = tables::lsp_cosines();
-    let mut out = [[0i16; 10]; 4];
-    let mut k: usize = 0;
-    while k < tables::SUBFRAMES_PER_FRAME {
-        let lsp = lsp::lsp_interpolate(k, prev, cur);
-        let set = lpc_of(&table, lsp);
-        out[k] = set;
-        k += 1;
-    }
-    out
+    std::array::from_fn(|k| lsp_to_lpc_q13(lsp::lsp_interpolate(k, prev, cur)))
 }

@@ -4,7 +4,7 @@ ghost use Rattle.std.specs.Prelude.{◌≡◌, pos, get_or};
 ghost use Rattle.tables.specs.Tables.{cosines, mean_lsps, gains, weights, postfilter_zeros, postfilter_poles};
 
 // One period of the cosine, in 16384ths, although the Rust's name has Q15 (§2.5; used in §2.7).
-const LSP_COSINE_LOOKUP_Q15: [i16; 512] = [
+static LSP_COSINE_LOOKUP_Q15: [i16; 512] = [
     16384, 16383, 16379, 16373, 16364, 16353, 16340, 16324, 16305, 16284, 16261, 16235, 16207,
     16176, 16143, 16107, 16069, 16029, 15986, 15941, 15893, 15843, 15791, 15736, 15679, 15619,
     15557, 15493, 15426, 15357, 15286, 15213, 15137, 15059, 14978, 14896, 14811, 14724, 14635,
@@ -47,7 +47,7 @@ const LSP_COSINE_LOOKUP_Q15: [i16; 512] = [
 ];
 
 // Mean LSPs (§2.6).
-const LSP_DC_PREDICTED_FREQ_Q15: [i16; 10] = [
+static LSP_DC_PREDICTED_FREQ_Q15: [i16; 10] = [
     3131, 4721, 7690, 10806, 13872, 16495, 19752, 22260, 25484, 27718,
 ];
 
@@ -65,25 +65,29 @@ static MPMLQ_COMBINATORIAL: [u32; 180] = [
 ];
 
 // Gains of the fixed codebook (§2.13, §2.14).
-const FIXED_CODEBOOK_GAIN_Q15: [i16; 24] = [
+static FIXED_CODEBOOK_GAIN_Q15: [i16; 24] = [
     1, 2, 3, 4, 6, 9, 13, 18, 26, 38, 55, 80, 115, 166, 240, 348, 502, 726, 1050, 1517, 2193, 3170,
     4582, 6623,
 ];
 
 // Formant postfilter, zeros and poles, in 32768ths (§2.18; used in §3.8).
-const POSTFILTER_ZERO_Q15: [i16; 10] = [21299, 13844, 8999, 5849, 3802, 2471, 1606, 1044, 679, 441];
+static POSTFILTER_ZERO_Q15: [i16; 10] = [
+    21299, 13844, 8999, 5849, 3802, 2471, 1606, 1044, 679, 441,
+];
 
-const POSTFILTER_POLE_Q15: [i16; 10] = [
+static POSTFILTER_POLE_Q15: [i16; 10] = [
     24576, 18432, 13824, 10368, 7776, 5832, 4374, 3281, 2460, 1845,
 ];
 
-// All of them at once: a constant table is made anew where it is read, and a frame reads eighty cosines.
-pub fn lsp_cosines() -> [i16; 512]
-    ensures { result ≡ cosines }
+// Lent: a frame reads eighty cosines.
+#[tactic(auto, unfolding(crate::specs::Tables::cosines))]
+pub fn lsp_cosines() -> &'static [i16; 512]
+    ensures { result.now ≡ cosines }
 {
-    LSP_COSINE_LOOKUP_Q15
+    &LSP_COSINE_LOOKUP_Q15
 }
 
+#[tactic(auto, unfolding(crate::specs::Tables::mean_lsps))]
 pub fn lsp_dc() -> [i16; 10]
     ensures { result ≡ mean_lsps }
 {
@@ -110,12 +114,14 @@ pub fn mpmlq_weights() -> &'static [u32; 180]
     &MPMLQ_COMBINATORIAL
 }
 
+#[tactic(auto, unfolding(crate::specs::Tables::postfilter_zeros))]
 pub fn postfilter_zero() -> [i16; 10]
     ensures { result ≡ postfilter_zeros }
 {
     POSTFILTER_ZERO_Q15
 }
 
+#[tactic(auto, unfolding(crate::specs::Tables::postfilter_poles))]
 pub fn postfilter_pole() -> [i16; 10]
     ensures { result ≡ postfilter_poles }
 {
