@@ -4,55 +4,30 @@
 ghost use Rattle.std.specs.Prelude.{◌≡◌, ℕ, ◌+◌, ◌-◌, ◌≤◌, ◌<◌, nat_abs, ◌+ℤ◌, ◌*ℤ◌};
 ghost use Rattle.std.specs.Int.{w32};
 ghost use Rattle.std.proofs.Common.{SFits};
-ghost use Rattle.integers.specs.Base.{sum_to, entry, tabulate, Within, AllFit, Fills};
+ghost use Rattle.integers.specs.Base.{sum_to, entry, tabulate, Within, AllFit};
 ghost use Rattle.tables.specs.Tables.{postfilter_zeros};
 ghost use Rattle.formant.specs.Formant.{weighted, inputs, formant, formant_memory};
 
-use synthesis::Synthesised;
+use filters::SubframeOut;
 
 fn weighted_coefficients(a: [i16; 10], table: [i16; 10]) -> [i16; 10]
     ensures { result ≡ weighted a table }
 {
-    let mut w = [0i16; 10];
-    let mut i: usize = 0;
-    while i < tables::LPC_ORDER {
-        w[i] = basicop::mult(a[i], table[i]);
-        i += 1;
-    }
-    w
-}
-
-// The memory before a subframe, the oldest sample first.
-fn oldest_first(mem: [i16; 10]) -> [i16; 70]
-    ensures { Fills (λ m. entry mem (9 - m)) 70 result 10 }
-{
-    let mut line = [0i16; 70];
-    let mut m: usize = 0;
-    while m < tables::LPC_ORDER {
-        line[m] = mem[9 - m];
-        m += 1;
-    }
-    line
+    std::array::from_fn(|i| basicop::mult(a[i], table[i]))
 }
 
 // The inputs of a subframe and the ten before it, the oldest first.
 fn input_line(y: &[i16; 60], mem: [i16; 10]) -> [i16; 70]
     ensures { result ≡ tabulate (λ m. entry (inputs y.now mem 60) (69 - m)) 70 }
 {
-    let mut line = oldest_first(mem);
-    let mut m: usize = tables::LPC_ORDER;
-    while m < tables::FORMANT_SPAN {
-        line[m] = y[m - tables::LPC_ORDER];
-        m += 1;
-    }
-    line
+    std::array::from_fn(|m| if m < 10 { mem[9 - m] } else { y[m - 10] })
 }
 
 fn tap(sum: i32, w: i16, x: i16) -> i32
     requires { SFits w32 (sum +ℤ w *ℤ x) }
     ensures { result ≡ sum +ℤ w *ℤ x }
 {
-    sum + w as i32 * x as i32
+    sum + i32::from(w) * i32::from(x)
 }
 
 // Sixty sums, each with one product more: the compiler makes several at once.
@@ -61,11 +36,10 @@ fn tapped(sums: [i32; 60], w: i16, line: &[i16; 70], k: usize) -> [i32; 60]
     requires all_fit { AllFit w32 (tabulate (λ n. entry sums n +ℤ w *ℤ entry line.now (n + k)) 60) }
     ensures { result ≡ tabulate (λ n. entry sums n +ℤ w *ℤ entry line.now (n + k)) 60 }
 {
-    let mut out = [0i32; 60];
-    let mut n: usize = 0;
-    while n < tables::SUBFRAME_SIZE {
+    let mut out = [0; 60];
+    // By from_fn it is no plainer: the closure would repeat the two clauses above, since it asks that its sum fits.
+    for n in 0..tables::SUBFRAME_SIZE {
         out[n] = tap(sums[n], w, line[n + k]);
-        n += 1;
     }
     out
 }
@@ -75,18 +49,22 @@ fn zero_sums(w: [i16; 10], line: [i16; 70]) -> [i32; 60]
     requires { (j : ℕ) → j < 10 → Within (nat_abs (entry postfilter_zeros j)) (entry w j) }
     ensures { result ≡ tabulate (λ n. sum_to (λ j. entry w j *ℤ entry line (n + (9 - j))) 10) 60 }
 {
-    let mut sums = [0i32; 60];
-    let mut j: usize = 0;
-    while j < tables::LPC_ORDER {
+    let mut sums = [0; 60];
+    for j in 0..tables::LPC_ORDER {
+        // In two steps: tried in one, and the check does not cover a call whose array replaces another.
         let next = tapped(sums, w[j], &line, 9 - j);
         sums = next;
-        j += 1;
     }
     sums
 }
 
 // What the zeros take away does not wait for the output, and is summed first.
-pub fn formant_subframe(a: [i16; 10], y: &[i16; 60], num: [i16; 10], den: [i16; 10]) -> Synthesised
+pub fn formant_subframe(
+    a: [i16; 10],
+    y: &[i16; 60],
+    num: [i16; 10],
+    den: [i16; 10],
+) -> SubframeOut<[i16; 10]>
     ensures out_value { result.out ≡ formant a y.now num den }
     ensures mem_value { result.mem ≡ formant_memory a y.now num den }
 {
