@@ -11,7 +11,7 @@ use Rattle.lags.specs.Lags.{counts, c, d, exceeds, unexceeded, first_unexceeded,
 use Rattle.lags.specs.Search.{Leads, Leading}
 use Rattle.lags.specs.declared.Direction.{Direction}
 use Rattle.lags.specs.declared.Best.{Best}
-use Rattle.lags.specs.declared.Best.TheVariants.{None, Lag}
+use Rattle.std.specs.Prelude.{Option, Some, None}
 
 module _ (x : List ℤ) (to : Direction) (p lo : ℕ) where
   -- ---- the test, from the lags' orders
@@ -46,14 +46,14 @@ module _ (x : List ℤ) (to : Direction) (p lo : ℕ) where
 
   -- ---- the first lag that passes it
 
-  abbrev with_sums_lem : ℕ → Best
-  with_sums_lem m = Lag m (c x to p m) (d x to p m)
+  abbrev with_sums_lem : ℕ → Option Best
+  with_sums_lem m = Some (record { lag = m; c = c x to p m; d = d x to p m })
 
   module _ (k : ℕ) where
     abbrev passes : ℕ → Bool
     passes m = counts x to p m && unexceeded x to p lo k m
 
-    abbrev first : ℕ → ℕ → Best
+    abbrev first : ℕ → ℕ → Option Best
     first m j = first_unexceeded x to p lo k m j
 
     first_step : (t : Bool) (m j : ℕ) → passes (m + 0) ≡ t → first m (suc j) ≡ cond t (with_sums_lem m) (first (suc m) j)
@@ -97,11 +97,11 @@ module _ (x : List ℤ) (to : Direction) (p lo : ℕ) where
     passes-first : passes k (lo + (m - lo)) ≡ true
     passes-first = ap (passes k) at_place ∙ (λ i. l.counted i && unexceeded_all m k l.unexceeded i)
 
-    leading_best : Lag m c' d' ≡ best_of x to p lo k
+    leading_best : Some (record { lag = m; c = c'; d = d' }) ≡ best_of x to p lo k
     leading_best =
-        (λ i. Lag m (l.is_c i) (l.is-d i)) ∙ sym (ap with_sums_lem at_place)
+        (λ i. Some (record { lag = m; c = l.is_c i; d = l.is-d i })) ∙ sym (ap with_sums_lem at_place)
         ∙ sym (first-at k lo k (m - lo) (omega (arith, l.from, l.below)) (λ j h. passes-not j (omega (arith, l.from))) passes-first)
 
-  pub leads_best : (k : ℕ) (b : Best) → Leads x to p lo k b → b ≡ best_of x to p lo k
+  pub leads_best : (k : ℕ) (b : Option Best) → Leads x to p lo k b → b ≡ best_of x to p lo k
   leads_best k None l = sym (first-none k lo k (λ i h. ap (λ (t : Bool). t && unexceeded x to p lo k (lo + i)) (l i h)))
-  leads_best k (Lag m c' d') l = leading_best k m c' d' l
+  leads_best k (Some b) l = leading_best k b.lag b.c b.d l

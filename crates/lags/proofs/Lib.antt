@@ -1,5 +1,4 @@
 -- Laws on which the proofs of this crate stand.
-pub mod Tests
 pub mod Squares
 pub mod Energies
 pub mod Choices

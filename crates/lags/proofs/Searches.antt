@@ -1,5 +1,5 @@
 -- Laws of the search: what leads after one lag more.
-use mathlib.Core.Path.{◌≡◌, refl, sym, ◌∙◌, subst}
+use mathlib.Core.Path.{◌≡◌, sym, ◌∙◌, subst}
 use mathlib.Core.Bool.{Bool, true, false}
 use mathlib.Core.List.{List}
 use mathlib.Core.Logic.{⊎_elim}
@@ -13,12 +13,14 @@ use Rattle.lags.specs.Lags.{counts, c, d, exceeds}
 use Rattle.lags.specs.Search.{beats, Leads, Leading, Inside}
 use Rattle.lags.specs.declared.Direction.{Direction}
 use Rattle.lags.specs.declared.Best.{Best}
-use Rattle.lags.specs.declared.Best.TheVariants.{None, Lag}
+use Rattle.std.specs.Prelude.{Option, Some, None, IfSome}
 use Rattle.integers.specs.Truth.{clash}
-use Rattle.lags.proofs.Tests.{ltb_asym}
 use Rattle.lags.proofs.Lags.{counted-inside, counted-loud}
 
 -- ---- the order of c²/d
+
+ltb_asym : (a b : ℕ) → ltb a b ≡ true → ltb b a ≡ false
+ltb_asym a b h = le-ltb b a (let k = ltb-true a b h in omega arith)
 
 -- where m is no less than j and n above m, n is above j
 order_trans : (A B C i j k : ℕ) → 0 < j → C * k ≤ A * j → A * i < B * k → C * i < B * j
@@ -74,29 +76,21 @@ module _ (x : List ℤ) (to : Direction) (p lo k : ℕ) where
         (λ j q t. exceeds_asym x to p n (lo + j) (f j q t)) (λ t. exceeds_irrefl x to p n);
   }
 
-  pub leads_uncounted : (b : Best) → Leads x to p lo k b → counts x to p n ≡ false → Leads x to p lo (k + 1) b
+  pub leads_uncounted : (b : Option Best) → Leads x to p lo k b → counts x to p n ≡ false → Leads x to p lo (k + 1) b
   leads_uncounted None l h = with_last (λ j. counts x to p (lo + j) ≡ false) l h
-  leads_uncounted (Lag m c' d') l h = stays l (λ t. clash t h)
+  leads_uncounted (Some b) l h = stays l (λ t. clash t h)
 
   -- where the last lag counts, with the sums v and w
   module _ (h : counts x to p n ≡ true) {v w : ℕ} (a : v ≡ c x to p n) (b : w ≡ d x to p n) where
-    beats-is : (t : Bool) (m c' d' : ℕ) → Leading x to p lo k m c' d' → beats (Lag m c' d') v w ≡ t → exceeds x to p n m ≡ t
-    beats-is t m c' d' l e = sym (λ i. ltb (l.is_c i * l.is_c i * b i) (a i * a i * l.is-d i)) ∙ e
+    beats-is : (t : Bool) (best : Best) → Leading x to p lo k best.lag best.c best.d → beats (Some best) v w ≡ t → exceeds x to p n best.lag ≡ t
+    beats-is t best l e = sym (λ i. ltb (l.is_c i * l.is_c i * b i) (a i * a i * l.is-d i)) ∙ e
 
-    pub leads_beaten : (best : Best) → Leads x to p lo k best → beats best v w ≡ true → Leads x to p lo (k + 1) (Lag n v w)
+    pub leads_beaten : (best : Option Best) → Leads x to p lo k best → beats best v w ≡ true → Leads x to p lo (k + 1) (Some (record { lag = n; c = v; d = w }))
     leads_beaten None l e = takes h a b (λ j q t. clash t (l j q))
-    leads_beaten (Lag m c' d') l e = takes h a b (λ j q t. exceeds_trans x to p n m (lo + j) t (l.unexceeded j q t) (beats-is true m c' d' l e))
-
-    pub leads_unbeaten : (best : Best) → Leads x to p lo k best → beats best v w ≡ false → Leads x to p lo (k + 1) best
-    leads_unbeaten None l e = clash refl e
-    leads_unbeaten (Lag m c' d') l e = stays l (λ t. beats-is false m c' d' l e)
-
--- of no lags none leads
-pub leads-start : (x : List ℤ) (to : Direction) (p lo : ℕ) → Leads x to p lo 0 None
-leads-start x to p lo j h = absurd (let z : ⊥ = omega arith in z)
+    leads_beaten (Some best) l e = takes h a b (λ j q t. exceeds_trans x to p n best.lag (lo + j) t (l.unexceeded j q t) (beats-is true best l e))
 
 -- ---- the samples of what leads lie in the signal
 
-pub leads-inside : (x : List ℤ) (to : Direction) (p lo k : ℕ) → lo + k ≤ p → (b : Best) → Leads x to p lo k b → Inside to p b
+pub leads-inside : (x : List ℤ) (to : Direction) (p lo k : ℕ) → lo + k ≤ p → (b : Option Best) → Leads x to p lo k b → IfSome b (Inside to p)
 leads-inside x to p lo k h None l = tt
-leads-inside x to p lo k h (Lag m c' d') l = record { back = omega (arith, l.below); ahead = omega (arith, counted-inside x to p m l.counted) }
+leads-inside x to p lo k h (Some b) l = record { back = omega (arith, l.below); ahead = omega (arith, counted-inside x to p b.lag l.counted) }

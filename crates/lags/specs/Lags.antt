@@ -1,12 +1,11 @@
 -- The search for a pitch lag (document 01, "Pitch postfilter"; the first half of the Rust's pitch_postfilter; eq. 43 of G.723.1). The signal x is the excitation history of 146 samples, then the frame's 240; the subframe stands at the place p.
-use Rattle.std.specs.Prelude.{Bool, true, cond, not, ◌&&◌, List, ℕ, zero, suc, ◌+◌, ◌-◌, ◌*◌, ◌/◌, ltb, leb, ℤ, pos, nat_abs}
+use Rattle.std.specs.Prelude.{Bool, true, cond, not, ◌&&◌, Option, Some, None, List, ℕ, zero, suc, ◌+◌, ◌-◌, ◌*◌, ◌/◌, ltb, leb, ℤ, pos, nat_abs}
 use Rattle.std.specs.Int.Signed.{lt_z}
 use Rattle.tables.specs.Constants.{subframe_size, frame_size, exc_hist_size, lag_reach}
 use Rattle.correlation.specs.Correlation.{correlation, energy}
 use Rattle.lags.specs.declared.Direction.{Direction}
 use Rattle.lags.specs.declared.Direction.TheVariants.{Forward, Backward}
 use Rattle.lags.specs.declared.Best.{Best}
-use Rattle.lags.specs.declared.Best.TheVariants.{None, Lag}
 use Rattle.lags.specs.declared.Choice.{Choice}
 
 -- ---- the best lag in one direction (eq. 43)
@@ -45,27 +44,28 @@ module _ (x : List ℤ) (to : Direction) (p : ℕ) where
   unexceeded lo (suc k) m = unexceeded lo k m && not (counts (lo + k) && exceeds (lo + k) m)
 
   -- the first of the j lags from m on that counts and that none of the k lags from lo on exceeds
-  unfoldable pub first_unexceeded : ℕ → ℕ → ℕ → ℕ → Best
+  unfoldable pub first_unexceeded : ℕ → ℕ → ℕ → ℕ → Option Best
   first_unexceeded lo k m zero = None
-  first_unexceeded lo k m (suc j) = cond (counts m && unexceeded lo k m) (Lag m (c m) (d m)) (first_unexceeded lo k (suc m) j)
+  first_unexceeded lo k m (suc j) = cond (counts m && unexceeded lo k m) (Some (record { lag = m; c = c m; d = d m })) (first_unexceeded lo k (suc m) j)
 
   -- the best of the k lags from lo on
-  abbrev pub best_of : ℕ → ℕ → Best
+  abbrev pub best_of : ℕ → ℕ → Option Best
   best_of lo k = first_unexceeded lo k lo k
 
 -- the best of the seven lags around a lag
-abbrev pub best_lag : List ℤ → Direction → ℕ → ℕ → Best
+abbrev pub best_lag : List ℤ → Direction → ℕ → ℕ → Option Best
 best_lag x to p lag = best_of x to p (lag - lag_reach) (2 * lag_reach + 1)
 
 -- ---- the direction
 
 -- of the larger floor of c²/d; forward where they are equal
-unfoldable pub chosen : Best → Best → Choice
-chosen None b = record { to = Backward; best = b }
-chosen (Lag m c d) None = record { to = Forward; best = Lag m c d }
-chosen (Lag m c d) (Lag m' c' d') =
-    cond (ltb (c * c / d) (c' * c' / d')) (record { to = Backward; best = Lag m' c' d' }) (record { to = Forward; best = Lag m c d })
+unfoldable pub chosen : Option Best → Option Best → Option Choice
+chosen None None = None
+chosen None (Some b) = Some (record { to = Backward; best = b })
+chosen (Some f) None = Some (record { to = Forward; best = f })
+chosen (Some f) (Some b) =
+    cond (ltb (f.c * f.c / f.d) (b.c * b.c / b.d)) (Some (record { to = Backward; best = b })) (Some (record { to = Forward; best = f }))
 
 -- the best of the seven lags around a lag, in the better direction
-abbrev pub chosen_lag : List ℤ → ℕ → ℕ → Choice
+abbrev pub chosen_lag : List ℤ → ℕ → ℕ → Option Choice
 chosen_lag x p lag = chosen (best_lag x Forward p lag) (best_lag x Backward p lag)

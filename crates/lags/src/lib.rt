@@ -2,7 +2,7 @@
 // qdec.rs).
 #![tactic(auto)]
 
-ghost use Rattle.std.specs.Prelude.{◌≡◌, ◌+◌, ◌*◌, ◌/◌, ◌^◌, ◌≤◌, ◌<◌, pos, ◌*ℤ◌};
+ghost use Rattle.std.specs.Prelude.{◌≡◌, ◌+◌, ◌*◌, ◌/◌, ◌^◌, ◌≤◌, ◌<◌, IfSome, pos, ◌*ℤ◌};
 ghost use Rattle.integers.specs.Base.{entry};
 ghost use Rattle.wide.specs.Value.{value};
 ghost use Rattle.correlation.specs.Correlation.{energy};
@@ -20,21 +20,22 @@ const SUBFRAME: u8 = tables::SUBFRAME_SIZE as u8;
 const LAST: usize = tables::SUBFRAME_SIZE - 1;
 
 // After the subframe, or before it.
-#[derive(Clone, Copy)]
+#[derive(Clone, Copy, PartialEq, Eq, Debug)]
 pub enum Direction {
     Forward,
     Backward,
 }
 
-// No lag, or a lag with its correlation and its energy, both above 0.
-#[derive(Clone, Copy)]
-pub enum Best {
-    None,
-    Lag { lag: usize, c: u64, d: u64 },
+// A lag with its correlation and its energy, both above 0.
+#[derive(Clone, Copy, PartialEq, Eq, Debug)]
+pub struct Best {
+    pub lag: usize,
+    pub c: u64,
+    pub d: u64,
 }
 
 // The direction that was chosen, with its best lag.
-#[derive(Clone, Copy)]
+#[derive(Clone, Copy, PartialEq, Eq, Debug)]
 pub struct Choice {
     pub to: Direction,
     pub best: Best,
@@ -45,8 +46,8 @@ pub fn window_place(to: Direction, p: u16, m: u16) -> usize
     ensures { result ≡ window to p m }
 {
     match to {
-        Direction::Forward => p as usize + m as usize,
-        Direction::Backward => if m <= p { (p - m) as usize } else { 0 },
+        Direction::Forward => usize::from(p) + usize::from(m),
+        Direction::Backward => if m <= p { usize::from(p - m) } else { 0 },
     }
 }
 
@@ -56,7 +57,7 @@ fn square_at(x: &[i16], i: usize) -> u64
     ensures upper_bound { result ≤ 2 ^ 30 }
 {
     if i < x.len() {
-        let v = x[i] as i32;
+        let v = i32::from(x[i]);
         (v * v) as u64
     } else {
         0
@@ -86,18 +87,14 @@ fn square_times(a: u64, b: u64) -> Wide
 }
 
 // Whether c²/d is above that of the best so far, exactly.
-fn is_better(best: Best, c: u64, d: u64) -> bool
-    requires small { Small best }
+fn is_better(best: Option<Best>, c: u64, d: u64) -> bool
+    requires small { IfSome best Small }
     requires c_bound { (c ≤ 2 ^ 36) × (d ≤ 2 ^ 37) }
     ensures { result ≡ beats best c d }
 {
     match best {
-        Best::None => true,
-        Best::Lag {
-            lag: _,
-            c: bc,
-            d: bd,
-        } => wide::less(square_times(bc, d), square_times(c, bd)),
+        None => true,
+        Some(b) => wide::less(square_times(b.c, d), square_times(c, b.d)),
     }
 }
 
@@ -110,16 +107,16 @@ fn offered(
     k: usize,
     q: usize,
     d: u64,
-    best: Best,
-) -> Best
+    best: Option<Best>,
+) -> Option<Best>
     requires k_bound { (lo + k < p) × (p ≤ 326) }
     requires q_value { q ≡ window to p (lo + k) }
     requires d_value { pos d ≡ lag_energy x.now to p (lo + k) }
     requires d_bound { d ≤ 2 ^ 37 }
     requires leads { Leads x.now to p lo k best }
-    requires small { Small best }
+    requires small { IfSome best Small }
     ensures leads_2 { Leads x.now to p lo (k + 1) result }
-    ensures small_2 { Small result }
+    ensures small_2 { IfSome result Small }
 {
     if tables::SIGNAL_SIZE < q + tables::SUBFRAME_SIZE {
         return best;
@@ -133,82 +130,60 @@ fn offered(
     }
     let c = s as u64;
     if is_better(best, c, d) {
-        Best::Lag {
-            lag: lo + k,
-            c: c,
-            d: d,
-        }
+        Some(Best { lag: lo + k, c, d })
     } else {
         best
     }
 }
 
 // The best of the seven lags from lo on.
-fn best_lag(x: &[i16], to: Direction, p: usize, lo: usize) -> Best
+fn best_lag(x: &[i16], to: Direction, p: usize, lo: usize) -> Option<Best>
     requires { (lo + 7 ≤ p) × (p ≤ 326) }
     ensures value { result ≡ best_of x.now to p lo 7 }
-    ensures small { Small result }
-    ensures inside { Inside to p result }
+    ensures small { IfSome result Small }
+    ensures inside { IfSome result (Inside to p) }
 {
-    let mut best = Best::None;
+    let mut best = None;
     let mut d = correlation::energy_from(x, window_place(to, p as u16, lo as u16), SUBFRAME);
-    let mut k: usize = 0;
-    while k < tables::LAG_CANDIDATES {
+    for k in 0..tables::LAG_CANDIDATES {
         let q = window_place(to, p as u16, (lo + k) as u16);
-        let b = offered(x, to, p, lo, k, q, d, best);
-        best = b;
+        best = offered(x, to, p, lo, k, q, d, best);
         d = moved_energy(x, to, q, d);
-        k += 1;
     }
     best
 }
 
-// The floor of c²/d.
-fn metric(c: u64, d: u64) -> Wide
-    ensures { value result ≡ c * c / d }
-{
-    quotient::divide(wide::product(c, c), Wide { hi: 0, lo: d })
-}
-
-fn chosen_direction(f: Best, b: Best) -> Choice
-    ensures { result ≡ chosen f b }
-{
-    match f {
-        Best::None => Choice {
-            to: Direction::Backward,
-            best: b,
-        },
-        Best::Lag { lag: _, c, d } => match b {
-            Best::None => Choice {
-                to: Direction::Forward,
-                best: f,
-            },
-            Best::Lag {
-                lag: _,
-                c: bc,
-                d: bd,
-            } => {
-                if wide::less(metric(c, d), metric(bc, bd)) {
-                    Choice {
-                        to: Direction::Backward,
-                        best: b,
-                    }
-                } else {
-                    Choice {
-                        to: Direction::Forward,
-                        best: f,
-                    }
-                }
-            }
-        },
+impl Best {
+    // The floor of c²/d.
+    fn metric(self) -> Wide
+        ensures { value result ≡ self.c * self.c / self.d }
+    {
+        quotient::divide(wide::product(self.c, self.c), Wide { hi: 0, lo: self.d })
     }
 }
 
+#[tactic(auto, unfolding(crate::specs::Lags::chosen))]
+fn chosen_direction(f: Option<Best>, b: Option<Best>) -> Option<Choice>
+    ensures { result ≡ chosen f b }
+{
+    let (to, best) = match (f, b) {
+        (None, None) => return None,
+        (Some(f), None) => (Direction::Forward, f),
+        (None, Some(b)) => (Direction::Backward, b),
+        (Some(f), Some(b)) => if wide::less(f.metric(), b.metric()) {
+            (Direction::Backward, b)
+        } else {
+            (Direction::Forward, f)
+        },
+    };
+    Some(Choice { to, best })
+}
+
 // The best lag around a lag, in the better direction.
-pub fn chosen_lag(signal: &[i16; 386], s: Subframe, lag: i32) -> Choice
+pub fn chosen_lag(signal: &[i16; 386], s: Subframe, lag: i32) -> Option<Choice>
     ensures value { result ≡ chosen_lag signal.now (subframe_place s) (limited_lag lag) }
-    ensures small { Small result.best }
-    ensures inside { Inside result.to (subframe_place s) result.best }
+    ensures small { IfSome result (λ k. Small k.best) }
+    ensures inside { IfSome result (λ k. Inside k.to (subframe_place s) k.best) }
 {
     let p = excitation::subframe_place(s);
     let lo = adaptive::limited_lag(lag) - tables::LAG_REACH as usize;

@@ -9,7 +9,7 @@ use Rattle.correlation.specs.Correlation.{correlation}
 use Rattle.lags.specs.Lags.{window, lag_correlation, lag_energy, counts}
 use Rattle.lags.specs.declared.Direction.{Direction}
 use Rattle.lags.proofs.Lags.{counts-not-inside, counts-not-alike, counts-not-loud, counts_all}
-use Rattle.lags.proofs.Searches.{leads_uncounted, leads_beaten, leads_unbeaten}
+use Rattle.lags.proofs.Searches.{leads_uncounted, leads_beaten}
 use Rattle.lags.proofs.offered.Goals as goal
 
 -- the lag's correlation, as it is read from the call's bits
@@ -57,11 +57,3 @@ returns-then-is_better-clause-leads_2 c =
     let is = read_is a.x.now a.to a.p (a.lo + a.k) a.q s.result s.type_inv s.ensures.value c.requires.q_value in
     let all = counted a.x.now a.to a.p (a.lo + a.k) a.q a.d (to_z w64 (of_z w64 s.result)) c.requires.q_value c.if-q-gt-SIGNAL_SIZE.false is c.if-s-le0.false c.requires.d_value (omega (arith, c.if-d-eq0.false)) in
     leads_beaten a.x.now a.to a.p a.lo a.k all (ap nat_abs is) (ap nat_abs c.requires.d_value) a.best c.requires.leads (sym c.is_better.ensures ∙ c.if-is_better.true)
-
-pub returns-else-is_better-clause-leads_2 : goal.returns-else-is_better-clause-leads_2
-returns-else-is_better-clause-leads_2 c =
-    let a = c.args in
-    let s = c.correlate-s in
-    let is = read_is a.x.now a.to a.p (a.lo + a.k) a.q s.result s.type_inv s.ensures.value c.requires.q_value in
-    let all = counted a.x.now a.to a.p (a.lo + a.k) a.q a.d (to_z w64 (of_z w64 s.result)) c.requires.q_value c.if-q-gt-SIGNAL_SIZE.false is c.if-s-le0.false c.requires.d_value (omega (arith, c.if-d-eq0.false)) in
-    leads_unbeaten a.x.now a.to a.p a.lo a.k all (ap nat_abs is) (ap nat_abs c.requires.d_value) a.best c.requires.leads (sym c.is_better.ensures ∙ c.if-is_better.false)
