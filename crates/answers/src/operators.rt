@@ -1,88 +1,76 @@
-// Questions to crates basicop, basicop32 and root.
-use crate::input::{Cursor, Read, Word, next_word, number16, number32, number64};
-use crate::names;
-use crate::output::{print16, print32, print64, unknown};
+// Questions to crates basicop, basicop32 and isqrt.
+use crate::words::Words;
+use std::fmt::Display;
+use std::io::Write;
+use std::num::ParseIntError;
+use std::str::FromStr;
 
-// Two 16-bit operands.
-fn binary16(n: u64, a: i16, b: i16) {
-    if n == names::ADD {
-        print16(basicop::add(a, b));
-    } else if n == names::SUB {
-        print16(basicop::sub(a, b));
-    } else if n == names::MULT {
-        print16(basicop::mult(a, b));
-    } else {
-        print32(basicop32::l_mult(a, b));
-    }
+// Answers with an operator of one number.
+fn unary<A, R, F>(out: &mut impl Write, words: &mut Words<'_>, f: F) -> anyhow::Result<()>
+where
+    A: FromStr<Err = ParseIntError>,
+    R: Display + Drop,
+    F: FnOnce(A) -> R,
+    requires { F.IsAlwaysCallable f }
+{
+    let a = words.number()?;
+    writeln!(out, "{}", f(a))?;
+    Ok(())
 }
 
-// A 16-bit number and a count.
-fn shift(n: u64, a: i16, count: i32) {
-    if n == names::SHL {
-        print16(basicop::shl(a, count));
-    } else {
-        print16(basicop::shr(a, count));
-    }
+// Answers with an operator of two numbers.
+fn binary<A, B, R, F>(out: &mut impl Write, words: &mut Words<'_>, f: F) -> anyhow::Result<()>
+where
+    A: FromStr<Err = ParseIntError> + Drop,
+    B: FromStr<Err = ParseIntError>,
+    R: Display + Drop,
+    F: FnOnce(A, B) -> R,
+    requires { F.IsAlwaysCallable f }
+{
+    let a = words.number()?;
+    let b = words.number()?;
+    writeln!(out, "{}", f(a, b))?;
+    Ok(())
 }
 
-// One operand.
-fn unary(n: u64, w: Word) {
-    if n == names::ISQRT64 {
-        print64(isqrt::isqrt64(w.size) as u64);
-    } else if n == names::SAT32 {
-        print32(basicop32::sat32(number64(w)));
-    } else if n == names::SATURATE {
-        print16(basicop::saturate(number32(w)));
-    } else if n == names::EXTRACT_H {
-        print16(basicop32::extract_h(number32(w)));
-    } else {
-        print16(basicop32::round16(number32(w)));
-    }
+// Answers with an operator of three numbers.
+fn ternary<A, B, C, R, F>(out: &mut impl Write, words: &mut Words<'_>, f: F) -> anyhow::Result<()>
+where
+    A: FromStr<Err = ParseIntError> + Drop,
+    B: FromStr<Err = ParseIntError> + Drop,
+    C: FromStr<Err = ParseIntError>,
+    R: Display + Drop,
+    F: FnOnce(A, B, C) -> R,
+    requires { F.IsAlwaysCallable f }
+{
+    let a = words.number()?;
+    let b = words.number()?;
+    let c = words.number()?;
+    writeln!(out, "{}", f(a, b, c))?;
+    Ok(())
 }
 
-fn is_unary(n: u64) -> bool {
-    n == names::ISQRT64
-        || n == names::SAT32
-        || n == names::SATURATE
-        || n == names::EXTRACT_H
-        || n == names::ROUND16
-}
-
-fn is_binary16(n: u64) -> bool {
-    n == names::ADD || n == names::SUB || n == names::MULT || n == names::L_MULT
-}
-
-fn is_shift(n: u64) -> bool {
-    n == names::SHL || n == names::SHR
-}
-
-// A question with two operands or three, of which the first is read.
-fn several(buf: &mut [u8], n: u64, first: Read) -> Cursor {
-    let a = first.word;
-    let second = next_word(buf, first.cursor);
-    let b = second.word;
-    let mut end = second.cursor;
-    if is_binary16(n) {
-        binary16(n, number16(a), number16(b));
-    } else if is_shift(n) {
-        shift(n, number16(a), number32(b));
-    } else if n == names::L_ADD {
-        print32(basicop32::l_add(number32(a), number32(b)));
-    } else if n == names::L_MAC {
-        let third = next_word(buf, end);
-        print32(basicop32::l_mac(number32(a), number16(b), number16(third.word)));
-        end = third.cursor;
-    } else {
-        unknown();
-    }
-    end
-}
-
-// Answers a question, of which the name and the first operand are read.
-pub(crate) fn answer(buf: &mut [u8], n: u64, first: Read) -> Cursor {
-    if is_unary(n) {
-        unary(n, first.word);
-        return first.cursor;
-    }
-    several(buf, n, first)
+// Answers a question of these crates; whether it is one.
+pub(crate) fn answer(
+    out: &mut impl Write,
+    name: &str,
+    words: &mut Words<'_>,
+) -> anyhow::Result<bool> {
+    match name {
+        "add" => binary(out, words, basicop::add),
+        "sub" => binary(out, words, basicop::sub),
+        "mult" => binary(out, words, basicop::mult),
+        "shl" => binary(out, words, basicop::shl),
+        "shr" => binary(out, words, basicop::shr),
+        "saturate" => unary(out, words, basicop::saturate),
+        "l_add" => binary(out, words, basicop32::l_add),
+        "l_mult" => binary(out, words, basicop32::l_mult),
+        "l_mac" => ternary(out, words, basicop32::l_mac),
+        "sat32" => unary(out, words, basicop32::sat32),
+        "extract_h" => unary(out, words, basicop32::extract_h),
+        "round16" => unary(out, words, basicop32::round16),
+        "isqrt64" => unary(out, words, isqrt::isqrt64),
+        _ => return Ok(false),
+    }?;
+    Ok(true)
 }
