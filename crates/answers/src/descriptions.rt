@@ -2,7 +2,7 @@
 use crate::spaced::Spaced;
 use crate::words::Words;
 use anyhow::bail;
-use positions::{Count, Slots};
+use positions::Count;
 use pulses::Description;
 use std::io::Write;
 
@@ -21,7 +21,7 @@ fn flag(words: &mut Words<'_>) -> anyhow::Result<bool> {
 // The slots of a position code: those that have a bit, or none.
 fn positions(out: &mut impl Write, words: &mut Words<'_>) -> anyhow::Result<()> {
     let code = words.number()?;
-    let Slots::Of(found) = positions::fcbk_unpk_positions(code, count(words)?) else {
+    let Some(found) = positions::fcbk_unpk_positions(code, count(words)?) else {
         writeln!(out, "none")?;
         return Ok(());
     };

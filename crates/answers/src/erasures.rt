@@ -1,14 +1,13 @@
 // Questions to crates voicing and noise.
 use crate::words::Words;
 use std::io::Write;
-use voicing::Voicing;
 
 // Whether the tail is voiced, and then its lag.
 fn voiced(out: &mut impl Write, words: &mut Words<'_>) -> anyhow::Result<()> {
     let centre = words.number()?;
     match voicing::classify_erasure_voicing(&words.list()?, centre) {
-        Voicing::Unvoiced => writeln!(out, "0")?,
-        Voicing::Voiced(lag) => writeln!(out, "1 {lag}")?,
+        None => writeln!(out, "0")?,
+        Some(lag) => writeln!(out, "1 {lag}")?,
     }
     Ok(())
 }

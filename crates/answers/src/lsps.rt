@@ -13,7 +13,7 @@ fn write_stabilised(out: &mut impl Write, s: Stabilised) -> io::Result<()> {
     writeln!(
         out,
         "{} {}",
-        stability::outcome_code(s.outcome),
+        u8::from(s.outcome),
         Spaced(&s.lsps)
     )
 }

@@ -6,7 +6,7 @@ ghost use Rattle.std.specs.Prelude.{◌≡◌, length};
 ghost use Rattle.widths.specs.Widths.{history_after, narrowed};
 
 // N values in 16 bits: those of `xs`, then zeros.
-pub fn narrow<const N: usize>(xs: &[i32]) -> [i16; N]
+fn narrow<const N: usize>(xs: &[i32]) -> [i16; N]
     ensures { result ≡ narrowed xs.now N }
 {
     std::array::from_fn(|i| if i < xs.len() {
@@ -17,7 +17,7 @@ pub fn narrow<const N: usize>(xs: &[i32]) -> [i16; N]
 }
 
 // N values in 32 bits.
-pub fn widen<const N: usize>(xs: &[i16]) -> [i32; N]
+fn widen<const N: usize>(xs: &[i16]) -> [i32; N]
     requires { length xs.now ≡ N }
     ensures { result ≡ xs.now }
 {
