@@ -7,25 +7,19 @@ ghost use Rattle.basicop32.specs.Operators32.{word32, add32, mult32, mac32, high
 pub fn sat32(x: i64) -> i32
     ensures { result ≡ word32 x }
 {
-    if x > 2147483647 {
-        2147483647
-    } else if x < -2147483648 {
-        -2147483648
-    } else {
-        x as i32
-    }
+    x.clamp(-2147483648, 2147483647) as i32
 }
 
 pub fn l_add(a: i32, b: i32) -> i32
     ensures { result ≡ add32 a b }
 {
-    sat32(a as i64 + b as i64)
+    sat32(i64::from(a) + i64::from(b))
 }
 
 pub fn l_mult(a: i16, b: i16) -> i32
     ensures { result ≡ mult32 a b }
 {
-    sat32(a as i64 * b as i64 * 2)
+    sat32(i64::from(a) * i64::from(b) * 2)
 }
 
 pub fn l_mac(acc: i32, a: i16, b: i16) -> i32

@@ -1,5 +1,5 @@
 -- The rules of specs/Rules.antt: one computed test, used for each of the three codebooks.
-use Rattle.std.specs.Prelude.{◌≡◌, Bool, ◌&&◌, List, ℕ, ◌+◌, ◌*◌, T, ltb, ℤ, pos, length}
+use Rattle.std.specs.Prelude.{Bool, ◌&&◌, List, ℕ, ◌+◌, T, ltb, ℤ, pos, length}
 use Rattle.std.proofs.Math.Dec.{eqb, eqb→eq, ltb→lt}
 use Rattle.std.specs.Int.Signed.{mag}
 use Rattle.integers.specs.Base.{every, entry}

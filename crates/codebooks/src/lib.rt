@@ -6,7 +6,7 @@ ghost use Rattle.std.specs.Prelude.{◌≡◌};
 ghost use Rattle.codebooks.specs.Codebooks.{rows};
 
 // LSPs 0 to 2.
-const LSP_CODEBOOK_BAND0_Q13: [i16; 768] = [
+static LSP_CODEBOOK_BAND0_Q13: [i16; 768] = [
     0, 0, 0, -270, -1372, -1032, -541, -1650, -1382, -723, -2011, -2213, -941, -1122, -1942, -780,
     -1145, -2454, -884, -1309, -1373, -1051, -1523, -1766, -1083, -1622, -2300, -777, -1377, -2147,
     -935, -1467, -2763, -802, -1327, -3471, -935, -1959, -3999, -240, -89, 222, -661, -257, -160,
@@ -58,7 +58,7 @@ const LSP_CODEBOOK_BAND0_Q13: [i16; 768] = [
 ];
 
 // LSPs 3 to 5.
-const LSP_CODEBOOK_BAND1_Q13: [i16; 768] = [
+static LSP_CODEBOOK_BAND1_Q13: [i16; 768] = [
     0, 0, 0, -2114, -1302, 76, -2652, -1278, -1368, -2847, -828, -349, -3812, -2190, -349, -3946,
     -364, -449, -2725, -4492, -3607, -3495, -4764, -1744, -51, -756, 84, -153, -1191, 504, 108,
     -1418, 1167, -835, -896, 390, -569, -1702, 87, -1151, -1818, 933, -1826, -2547, 411, -1842,
@@ -112,7 +112,7 @@ const LSP_CODEBOOK_BAND1_Q13: [i16; 768] = [
 ];
 
 // LSPs 6 to 9.
-const LSP_CODEBOOK_BAND2_Q13: [i16; 1024] = [
+static LSP_CODEBOOK_BAND2_Q13: [i16; 1024] = [
     0, 0, 0, 0, 601, 512, -542, 334, 428, 1087, -484, -132, 652, 622, -391, -572, 378, 799, 141,
     -860, 1040, 409, 112, -554, 1123, 670, -75, -847, 1421, 494, -315, -1095, 787, 1001, 114, -460,
     988, 1672, 216, -681, 1007, 1241, -132, -1247, 1073, 399, 186, -5, 1262, 193, -694, -129, 325,
@@ -182,22 +182,19 @@ const LSP_CODEBOOK_BAND2_Q13: [i16; 1024] = [
 pub fn lsp_codebook_rows(row0: u8, row1: u8, row2: u8) -> [i16; 10]
     ensures { result ≡ rows row0 row1 row2 }
 {
-    let band0 = LSP_CODEBOOK_BAND0_Q13;
-    let band1 = LSP_CODEBOOK_BAND1_Q13;
-    let band2 = LSP_CODEBOOK_BAND2_Q13;
-    let a = row0 as usize * tables::LSP_BAND_0_SIZE;
-    let b = row1 as usize * tables::LSP_BAND_1_SIZE;
-    let c = row2 as usize * tables::LSP_BAND_2_SIZE;
+    let a = usize::from(row0) * tables::LSP_BAND_0_SIZE;
+    let b = usize::from(row1) * tables::LSP_BAND_1_SIZE;
+    let c = usize::from(row2) * tables::LSP_BAND_2_SIZE;
     [
-        band0[a],
-        band0[a + 1],
-        band0[a + 2],
-        band1[b],
-        band1[b + 1],
-        band1[b + 2],
-        band2[c],
-        band2[c + 1],
-        band2[c + 2],
-        band2[c + 3],
+        LSP_CODEBOOK_BAND0_Q13[a],
+        LSP_CODEBOOK_BAND0_Q13[a + 1],
+        LSP_CODEBOOK_BAND0_Q13[a + 2],
+        LSP_CODEBOOK_BAND1_Q13[b],
+        LSP_CODEBOOK_BAND1_Q13[b + 1],
+        LSP_CODEBOOK_BAND1_Q13[b + 2],
+        LSP_CODEBOOK_BAND2_Q13[c],
+        LSP_CODEBOOK_BAND2_Q13[c + 1],
+        LSP_CODEBOOK_BAND2_Q13[c + 2],
+        LSP_CODEBOOK_BAND2_Q13[c + 3],
     ]
 }
