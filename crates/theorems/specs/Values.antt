@@ -1,12 +1,11 @@
 -- The starred values of document 01, "Values to check against", all as one table (proofs/Values.antt).
-use Rattle.std.specs.Prelude.{◌≡◌, true, false, [], ◌∷◌, pos, negsuc}
+use Rattle.std.specs.Prelude.{◌≡◌, true, false, Some, None, [], ◌∷◌, pos, negsuc}
 use Rattle.isqrt.specs.Root.{root}
 use Rattle.stability.specs.Stability.{stabilised}
 use Rattle.stability.specs.declared.Outcome.TheVariants.{Moved}
 use Rattle.lpc.specs.Lpc.{cosine}
 use Rattle.positions.specs.Positions.{bits, positions}
 use Rattle.positions.specs.declared.Count.TheVariants.{Five, Six}
-use Rattle.positions.specs.declared.Slots.TheVariants.{Of, None}
 use Rattle.pulses.specs.Pulses.{vector}
 use Rattle.postfilter.specs.Postfilter.{towards}
 
@@ -27,13 +26,13 @@ pub record StarredValues : Type 0 where
   pub root_of_15 : root 15 ≡ 3
   pub root_of_16 : root 16 ≡ 4
   -- six pulses: code 0 gives slots 0..5; 118754 gives 0 and 25..29; 118755 gives 1..6; 593774 gives 24..29; 593775 none
-  pub six_0 : positions Six 0 ≡ Of (bits (0 ∷ 1 ∷ 2 ∷ 3 ∷ 4 ∷ 5 ∷ []))
-  pub six_118754 : positions Six 118754 ≡ Of (bits (0 ∷ 25 ∷ 26 ∷ 27 ∷ 28 ∷ 29 ∷ []))
-  pub six_118755 : positions Six 118755 ≡ Of (bits (1 ∷ 2 ∷ 3 ∷ 4 ∷ 5 ∷ 6 ∷ []))
-  pub six_593774 : positions Six 593774 ≡ Of (bits (24 ∷ 25 ∷ 26 ∷ 27 ∷ 28 ∷ 29 ∷ []))
+  pub six_0 : positions Six 0 ≡ Some (bits (0 ∷ 1 ∷ 2 ∷ 3 ∷ 4 ∷ 5 ∷ []))
+  pub six_118754 : positions Six 118754 ≡ Some (bits (0 ∷ 25 ∷ 26 ∷ 27 ∷ 28 ∷ 29 ∷ []))
+  pub six_118755 : positions Six 118755 ≡ Some (bits (1 ∷ 2 ∷ 3 ∷ 4 ∷ 5 ∷ 6 ∷ []))
+  pub six_593774 : positions Six 593774 ≡ Some (bits (24 ∷ 25 ∷ 26 ∷ 27 ∷ 28 ∷ 29 ∷ []))
   pub six_593775 : positions Six 593775 ≡ None
   -- five: 142505 gives 25..29
-  pub five_142505 : positions Five 142505 ≡ Of (bits (25 ∷ 26 ∷ 27 ∷ 28 ∷ 29 ∷ []))
+  pub five_142505 : positions Five 142505 ≡ Some (bits (25 ∷ 26 ∷ 27 ∷ 28 ∷ 29 ∷ []))
   -- gain index 0, grid 0, code 0, five pulses, no signs, train, lag 18: 2 at eighteen samples: 0..8, 18..26, 36..44 and 54..58, evens only
   pub train_18 : vector (record { count = Five; train = true; base_lag = 18; grid = false; code = 0; signs = 0; gain_index = 0 }) ≡
       pos 2 ∷ pos 0 ∷ pos 2 ∷ pos 0 ∷ pos 2 ∷ pos 0 ∷ pos 2 ∷ pos 0 ∷ pos 2 ∷ pos 0 ∷ pos 0 ∷ pos 0 ∷ pos 0 ∷ pos 0 ∷ pos 0 ∷ pos 0 ∷ pos 0 ∷ pos 0 ∷
