@@ -1,5 +1,5 @@
 -- Which of the numbers 3 to 10 a record gets (document 01, "The ten numbers, tested in this order"; document 02, E1). r is the record's bytes and f its fields after the head.
-use Rattle.std.specs.Prelude.{◌≡◌, Bool, false, cond, not, ◌&&◌, ◌||◌, List, ℕ, zero, suc, ◌^◌, ltb, leb, eqb, length}
+use Rattle.std.specs.Prelude.{◌≡◌, Result, Ok, Err, Bool, false, cond, not, ◌&&◌, ◌||◌, List, ℕ, zero, suc, ◌^◌, ltb, leb, eqb, length}
 use Rattle.tables.specs.Constants.{kind_max, record_erased_bytes, record_high_bytes, record_low_bytes, record_high_index_bytes, record_low_index_bytes}
 use Rattle.tables.specs.Constants.{lag_a_place, lag_b_place, step1_place, step3_place, lag_code_max, step_code_max, gain_index_max, flags_max, train_lag_limit}
 use Rattle.positions.specs.Positions.{pulses}
@@ -13,9 +13,10 @@ use Rattle.layout.specs.declared.LspForm.{LspForm}
 use Rattle.layout.specs.declared.LspForm.TheVariants.{Values, Index}
 use Rattle.record.specs.Record.{base_lag_of, gain_index_of, flags, train, signs, count}
 use Rattle.numbers.specs.Numbers.{number}
+use Rattle.numbers.specs.declared.Refusal.{Refusal}
 use Rattle.numbers.specs.declared.Refusal.TheVariants.{NoByte, Kind, Length, LagCode, StepCode, GainIndex, Flags, Signs}
-use Rattle.refusals.specs.declared.Found.{Found}
-use Rattle.refusals.specs.declared.Found.TheVariants.{Erased, Received, Refused}
+use Rattle.refusals.specs.declared.Frame.{Frame}
+use Rattle.refusals.specs.declared.Frame.TheVariants.{Erased, Received}
 
 -- ---- what each number asks
 
@@ -73,30 +74,30 @@ wrong_signs Low f = false
 -- ---- the first that applies
 
 -- 6 to 10
-unfoldable pub found_received : Rate → LspForm → List ℕ → Found
+unfoldable pub found_received : Rate → LspForm → List ℕ → Result Frame Refusal
 found_received rate form f =
-    cond (wrong_lag_code f) (Refused LagCode) (cond (wrong_step_code f) (Refused StepCode) (cond (wrong_gain_index rate f) (Refused GainIndex)
-    (cond (wrong_flags rate f) (Refused Flags) (cond (wrong_signs rate f) (Refused Signs) (Received rate form)))))
+    cond (wrong_lag_code f) (Err LagCode) (cond (wrong_step_code f) (Err StepCode) (cond (wrong_gain_index rate f) (Err GainIndex)
+    (cond (wrong_flags rate f) (Err Flags) (cond (wrong_signs rate f) (Err Signs) (Ok (Received rate form))))))
 
 -- by its kind
-unfoldable pub found_of : ℕ → List ℕ → Found
-found_of zero r = Erased
+unfoldable pub found_of : ℕ → List ℕ → Result Frame Refusal
+found_of zero r = Ok Erased
 found_of (suc zero) r = found_received High Values (fields_of Values r)
 found_of (suc (suc zero)) r = found_received Low Values (fields_of Values r)
 found_of (suc (suc (suc zero))) r = found_received High Index (fields_of Index r)
 found_of (suc (suc (suc (suc n)))) r = found_received Low Index (fields_of Index r)
 
 -- 3 to 5 before all else
-unfoldable pub found : List ℕ → Found
-found r = cond (no_byte r) (Refused NoByte) (cond (wrong_kind r) (Refused Kind) (cond (wrong_length r) (Refused Length) (found_of (byte r 0) r)))
+unfoldable pub found : List ℕ → Result Frame Refusal
+found r = cond (no_byte r) (Err NoByte) (cond (wrong_kind r) (Err Kind) (cond (wrong_length r) (Err Length) (found_of (byte r 0) r)))
 
 -- ---- what each case says, in document 01's numbers
 
 -- the number: that of the refusal, 0 where the record is accepted
-abbrev pub number_found : Found → ℕ
-number_found Erased = 0
-number_found (Received rate form) = 0
-number_found (Refused n) = number n
+abbrev pub number_found : Result Frame Refusal → ℕ
+number_found (Ok Erased) = 0
+number_found (Ok (Received rate form)) = 0
+number_found (Err n) = number n
 
 -- the kind of a received record
 abbrev pub kind_of : Rate → LspForm → ℕ
@@ -106,10 +107,10 @@ kind_of High Index = 3
 kind_of Low Index = 4
 
 -- the kind: byte 0 of a record that is accepted; a refused one may have any
-abbrev pub IsKind : Found → ℕ → Type 0
-IsKind Erased kind = kind ≡ 0
-IsKind (Received rate form) kind = kind ≡ kind_of rate form
-IsKind (Refused n) kind = Unit
+abbrev pub IsKind : Result Frame Refusal → ℕ → Type 0
+IsKind (Ok Erased) kind = kind ≡ 0
+IsKind (Ok (Received rate form)) kind = kind ≡ kind_of rate form
+IsKind (Err n) kind = Unit
 
 -- a record's number: the first of 3 to 10 that applies, or 0
 abbrev pub record_number : List ℕ → ℕ

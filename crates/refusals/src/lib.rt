@@ -1,34 +1,55 @@
 // What a record is found to be: erased, received, or refused with one of the numbers 3 to 10.
 #![tactic(auto)]
 
-ghost use Rattle.std.specs.Prelude.{◌≡◌, ◌||◌, ltb};
-ghost use Rattle.tables.specs.Constants.{gain_index_max};
+ghost use Rattle.std.specs.Prelude.{◌≡◌, ℕ, ◌<◌, ◌||◌, ltb, Bool, Ok, MatchResult};
+ghost use Rattle.tables.specs.Constants.{kind_max, gain_index_max};
+ghost use Rattle.excitation.specs.declared.Subframe.{Subframe};
 ghost use Rattle.reader.specs.Fields.{byte};
-ghost use Rattle.layout.specs.Layout.{fields_of};
+ghost use Rattle.numbers.specs.declared.Refusal.TheVariants.{Kind};
 ghost use Rattle.record.specs.Record.{gain_index_of};
-ghost use Rattle.refusals.specs.Refusals.{record_bytes, wrong_lag_code, wrong_step_code, wrong_gain_index, wrong_flags_in, wrong_flags, wrong_signs_in, wrong_signs, found_received, found, number_found, kind_of, IsKind, record_number};
+ghost use Rattle.refusals.specs.Refusals.{record_bytes, any_subframe, wrong_lag_code, wrong_step_code, wrong_gain_index, wrong_flags_in, wrong_flags, wrong_signs_in, wrong_signs, found_received, found, number_found, kind_of, IsKind, record_number};
 
 use excitation::{Rate, Subframe};
 use layout::LspForm;
 use numbers::Refusal;
 
+// What a record is of that is accepted.
 #[derive(Clone, Copy)]
-pub enum Found {
+pub enum Frame {
     Erased,
     Received(Rate, LspForm),
-    Refused(Refusal),
 }
 
-// The length of a record of a kind.
-fn record_bytes(kind: u8) -> usize
-    ensures { result ≡ record_bytes kind }
-{
-    match kind {
-        0 => tables::RECORD_ERASED_BYTES,
-        1 => tables::RECORD_HIGH_BYTES,
-        2 => tables::RECORD_LOW_BYTES,
-        3 => tables::RECORD_HIGH_INDEX_BYTES,
-        _ => tables::RECORD_LOW_INDEX_BYTES,
+// By its kind, byte 0.
+impl TryFrom<u8> for Frame {
+    type Error = Refusal;
+
+    ghost try_from_gives = { λ kind r. MatchResult r (λ frame. IsKind (Ok frame) kind) (λ n. (n ≡ Kind) × (kind_max < kind)) };
+
+    fn try_from(kind: u8) -> Result<Frame, Refusal> {
+        match kind {
+            0 => Ok(Frame::Erased),
+            1 => Ok(Frame::Received(Rate::High, LspForm::Values)),
+            2 => Ok(Frame::Received(Rate::Low, LspForm::Values)),
+            3 => Ok(Frame::Received(Rate::High, LspForm::Index)),
+            4 => Ok(Frame::Received(Rate::Low, LspForm::Index)),
+            _ => Err(Refusal::Kind),
+        }
+    }
+}
+
+impl Frame {
+    // The length of its record.
+    fn record_bytes(self) -> usize
+        ensures { (kind : ℕ) → IsKind (Ok self) kind → result ≡ record_bytes kind }
+    {
+        match self {
+            Frame::Erased => tables::RECORD_ERASED_BYTES,
+            Frame::Received(Rate::High, LspForm::Values) => tables::RECORD_HIGH_BYTES,
+            Frame::Received(Rate::Low, LspForm::Values) => tables::RECORD_LOW_BYTES,
+            Frame::Received(Rate::High, LspForm::Index) => tables::RECORD_HIGH_INDEX_BYTES,
+            Frame::Received(Rate::Low, LspForm::Index) => tables::RECORD_LOW_INDEX_BYTES,
+        }
     }
 }
 
@@ -62,56 +83,40 @@ fn step_code_above(fields: &[u8]) -> bool
 }
 
 // A test holds in one of the four subframes.
-fn in_any(zero: bool, one: bool, two: bool, three: bool) -> bool
-    ensures { result ≡ (zero || (one || (two || three))) }
+fn in_any<F: Fn(Subframe) -> bool>(test: F) -> bool
+    requires { F.IsAlwaysCallable test }
+    ensures { (t : Subframe → Bool) → ((s : Subframe) (r : Bool) → F.post test s r → r ≡ t s) → result ≡ any_subframe t }
 {
-    zero || (one || (two || three))
+    test(Subframe::Zero) || test(Subframe::One) || test(Subframe::Two) || test(Subframe::Three)
 }
 
 fn gain_above(fields: &[u8], rate: Rate, s: Subframe) -> bool
     ensures { result ≡ ltb gain_index_max (gain_index_of rate fields.now s) }
 {
-    reader::byte_field(
-        fields,
-        layout::block_place(rate, s) + tables::GAIN_INDEX_PLACE,
-    ) > tables::GAIN_INDEX_MAX
+    let at = layout::block_place(rate, s) + tables::GAIN_INDEX_PLACE;
+    reader::byte_field(fields, at) > tables::GAIN_INDEX_MAX
 }
 
 fn any_gain_above(fields: &[u8], rate: Rate) -> bool
     ensures { result ≡ wrong_gain_index rate fields.now }
 {
-    in_any(
-        gain_above(fields, rate, Subframe::Zero),
-        gain_above(fields, rate, Subframe::One),
-        gain_above(fields, rate, Subframe::Two),
-        gain_above(fields, rate, Subframe::Three),
-    )
+    in_any(|s| gain_above(fields, rate, s))
 }
 
 fn flags_wrong(fields: &[u8], s: Subframe) -> bool
     ensures { result ≡ wrong_flags_in fields.now s }
 {
-    let flags = reader::byte_field(
-        fields,
-        layout::block_place(Rate::High, s) + tables::FLAGS_PLACE,
-    );
-    if flags > tables::FLAGS_MAX {
-        return true;
-    }
-    let lag = reader::byte_field(fields, layout::lag_place(s)) as i32 + tables::PITCH_MIN;
-    flags / 2 % 2 == 1 && lag >= tables::TRAIN_LAG_LIMIT
+    let at = layout::block_place(Rate::High, s) + tables::FLAGS_PLACE;
+    let flags = reader::byte_field(fields, at);
+    let lag = i32::from(reader::byte_field(fields, layout::lag_place(s))) + tables::PITCH_MIN;
+    flags > tables::FLAGS_MAX || flags / 2 % 2 == 1 && lag >= tables::TRAIN_LAG_LIMIT
 }
 
 fn any_flags_wrong(fields: &[u8], rate: Rate) -> bool
     ensures { result ≡ wrong_flags rate fields.now }
 {
     match rate {
-        Rate::High => in_any(
-            flags_wrong(fields, Subframe::Zero),
-            flags_wrong(fields, Subframe::One),
-            flags_wrong(fields, Subframe::Two),
-            flags_wrong(fields, Subframe::Three),
-        ),
+        Rate::High => in_any(|s| flags_wrong(fields, s)),
         Rate::Low => false,
     }
 }
@@ -119,15 +124,11 @@ fn any_flags_wrong(fields: &[u8], rate: Rate) -> bool
 fn signs_wrong(fields: &[u8], s: Subframe) -> bool
     ensures { result ≡ wrong_signs_in fields.now s }
 {
-    let signs = reader::byte_field(
-        fields,
-        layout::block_place(Rate::High, s) + tables::SIGNS_PLACE,
-    );
+    let at = layout::block_place(Rate::High, s) + tables::SIGNS_PLACE;
+    let signs = reader::byte_field(fields, at);
     match s {
-        Subframe::Zero => signs >= tables::MPMLQ_SIGNS_LIMIT_SIX,
-        Subframe::One => signs >= tables::MPMLQ_SIGNS_LIMIT_FIVE,
-        Subframe::Two => signs >= tables::MPMLQ_SIGNS_LIMIT_SIX,
-        Subframe::Three => signs >= tables::MPMLQ_SIGNS_LIMIT_FIVE,
+        Subframe::Zero | Subframe::Two => signs >= tables::MPMLQ_SIGNS_LIMIT_SIX,
+        Subframe::One | Subframe::Three => signs >= tables::MPMLQ_SIGNS_LIMIT_FIVE,
     }
 }
 
@@ -135,68 +136,52 @@ fn any_signs_wrong(fields: &[u8], rate: Rate) -> bool
     ensures { result ≡ wrong_signs rate fields.now }
 {
     match rate {
-        Rate::High => in_any(
-            signs_wrong(fields, Subframe::Zero),
-            signs_wrong(fields, Subframe::One),
-            signs_wrong(fields, Subframe::Two),
-            signs_wrong(fields, Subframe::Three),
-        ),
+        Rate::High => in_any(|s| signs_wrong(fields, s)),
         Rate::Low => false,
     }
 }
 
 // Numbers 6 to 10.
-fn received_found(fields: &[u8], rate: Rate, form: LspForm) -> Found
+#[tactic(auto, unfolding(crate::specs::Refusals::found_received))]
+fn examine_received(fields: &[u8], rate: Rate, form: LspForm) -> Result<Frame, Refusal>
     ensures answer { result ≡ found_received rate form fields.now }
     ensures kind { IsKind result (kind_of rate form) }
 {
     if lag_code_above(fields) {
-        return Found::Refused(Refusal::LagCode);
+        return Err(Refusal::LagCode);
     }
     if step_code_above(fields) {
-        return Found::Refused(Refusal::StepCode);
+        return Err(Refusal::StepCode);
     }
     if any_gain_above(fields, rate) {
-        return Found::Refused(Refusal::GainIndex);
+        return Err(Refusal::GainIndex);
     }
     if any_flags_wrong(fields, rate) {
-        return Found::Refused(Refusal::Flags);
+        return Err(Refusal::Flags);
     }
     if any_signs_wrong(fields, rate) {
-        return Found::Refused(Refusal::Signs);
+        return Err(Refusal::Signs);
     }
-    Found::Received(rate, form)
-}
-
-// The same of a record, by its fields.
-fn record_found(record: &[u8], rate: Rate, form: LspForm) -> Found
-    ensures answer { result ≡ found_received rate form (fields_of form «record».now) }
-    ensures kind { IsKind result (kind_of rate form) }
-{
-    received_found(layout::fields(record, form), rate, form)
+    Ok(Frame::Received(rate, form))
 }
 
 // The first number that applies, or what the record is.
-pub fn examine(record: &[u8]) -> Found
+pub fn examine(record: &[u8]) -> Result<Frame, Refusal>
     ensures answer { result ≡ found «record».now }
     ensures number { number_found result ≡ record_number «record».now }
     ensures kind { IsKind result (byte «record».now 0) }
 {
-    if record.len() == 0 {
-        return Found::Refused(Refusal::NoByte);
+    let Some(&kind) = record.first() else {
+        return Err(Refusal::NoByte);
+    };
+    let frame = Frame::try_from(kind)?;
+    if record.len() != frame.record_bytes() {
+        return Err(Refusal::Length);
     }
-    let kind = reader::byte_field(record, 0);
-    if kind > tables::KIND_MAX {
-        return Found::Refused(Refusal::Kind);
-    }
-    if record.len() != record_bytes(kind) {
-        return Found::Refused(Refusal::Length);
-    }
-    match kind {
-        0 => Found::Erased,
-        1 => record_found(record, Rate::High, LspForm::Values),
-        2 => record_found(record, Rate::Low, LspForm::Values),
-        3 => record_found(record, Rate::High, LspForm::Index),
-        _ => record_found(record, Rate::Low, LspForm::Index),
+    match frame {
+        Frame::Erased => Ok(frame),
+        Frame::Received(rate, form) => {
+            examine_received(layout::fields(record, form), rate, form)
+        }
     }
 }
