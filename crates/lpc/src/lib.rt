@@ -3,6 +3,7 @@
 
 ghost use Rattle.std.specs.Prelude.{◌≡◌, ◌<◌, ◌^◌};
 ghost use Rattle.integers.specs.Base.{entry, tabulate, up, Within, AllWithin};
+ghost use Rattle.lsp.specs.Lsps.{interpolated};
 ghost use Rattle.lpc.specs.Lpc.{cosine, coefficient_before, factor_term, times_factor, polynomial, rounded_sum, coefficients, frame_coefficients};
 
 // The place of an LSP in the table, in 128ths of its steps. Negative LSPs occur: stabilising holds gaps, not places.
@@ -56,7 +57,8 @@ fn times_factor(p: [i64; 11], c: i16) -> [i64; 11]
 // The product of the five factors of every second LSP.
 fn expanded(lsp: [i16; 10], first: usize) -> [i64; 11]
     requires { first < 2 }
-    ensures { result ≡ tabulate (polynomial lsp first) 11 }
+    ensures value { result ≡ tabulate (polynomial lsp first) 11 }
+    ensures bounded { AllWithin (2 ^ 37) result }
 {
     let mut p = [0i64; 11];
     p[0] = tables::LPC_ONE_Q24;
@@ -89,5 +91,9 @@ pub fn lsp_to_lpc_q13(lsp: [i16; 10]) -> [i16; 10]
 pub fn frame_lpc_q13(prev: [i16; 10], cur: [i16; 10]) -> [[i16; 10]; 4]
     ensures { result ≡ frame_coefficients prev cur }
 {
-    std::array::from_fn(|k| lsp_to_lpc_q13(lsp::lsp_interpolate(k, prev, cur)))
+    std::array::from_fn(
+        |k|
+            ensures { result ≡ coefficients (interpolated k prev cur) }
+        { lsp_to_lpc_q13(lsp::lsp_interpolate(k, prev, cur)) },
+    )
 }
