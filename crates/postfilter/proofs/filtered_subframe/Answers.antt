@@ -1,11 +1,16 @@
-use Rattle.std.proofs.Common.{◌≡◌, rules, ℤ, pos, nat_abs, List, ap, ◌∙◌, arith, to_z, of_z}
+use Rattle.std.proofs.Common.{◌≡◌, ◌+◌, ℕ, SFits, sym, subst, rules, ℤ, pos, nat_abs, List, ap, ◌∙◌, arith, to_z, of_z, to_z-of_z}
 use Rattle.std.specs.Int.{w16, w32, w64}
 use Rattle.integers.specs.Base.{entry}
 use Rattle.integers.specs.Bound.{within_weaken}
 use Rattle.integers.specs.Signed.{back}
+use Rattle.integers.specs.Saturation.{saturated-fits}
+use Rattle.integers.specs.Fill.{tabulate-at}
 use Rattle.integers.specs.Expression.{is-mag, is-result, within-is}
 use Rattle.correlation.specs.Correlation.{energy}
 use Rattle.postfilter.specs.Postfilter.{tilt_of, smoothed, compensated, gain_target, gain_after, gained, filtered, postfilter_after}
+use Rattle.synthesis.specs.Synthesis.{driven, driven_subframe}
+use Rattle.synthesis.proofs.Samples.{driven-step}
+use Rattle.formant.specs.Formant.{formant, poles, after_zeros}
 use Rattle.postfilter.proofs.Bounds.{tilt-within}
 use Rattle.postfilter.proofs.filtered_subframe.Goals as goal
 
@@ -20,6 +25,14 @@ smoothed_tilt-k1-requires c =
     let k = tilt-within (to_z w64 (of_z w64 c.correlate-r1.result)) c.energy_from-r0.result in
     within-is (is-result w32 c.tilt_quotient.result c.tilt_quotient.type_inv c.tilt_quotient.ensures) k
 
+-- the filter's last output is a sample
+formant_fits : (a y num den : List ℤ) → SFits w16 (entry (formant a y num den) 59)
+unfolding driven_subframe
+formant_fits a y num den =
+    let v : ℕ → ℤ = after_zeros a y num in
+    let at = tabulate-at (λ n. entry (driven (poles a) v den (n + 1)) 0) 60 59 (pos 0) (omega arith) in
+    subst (SFits w16) (sym (at ∙ ap (λ (q : List ℤ). entry q 0) (driven-step (poles a) v den 59))) (saturated-fits 32767 _ tt)
+
 pub returns : goal.returns
 unfolding filtered postfilter_after
 returns c =
@@ -29,7 +42,9 @@ returns c =
     let old-k1 : to_z w16 (of_z w16 m.tilt_k1) ≡ m.tilt_k1 = search rules in
     let old-gain : to_z w32 (of_z w32 m.agc_gain_q12) ≡ m.agc_gain_q12 = search rules in
     let formant-is = c.formant_subframe-f.ensures.out_value in
-    let last : to_z w16 (of_z w16 (entry c.formant_subframe-f.result.out 59)) ≡ entry c.formant_subframe-f.result.out 59 = search rules in
+    let output = c.formant_subframe-f.result.out in
+    let fits = subst (λ (z : List ℤ). SFits w16 (entry z 59)) (sym formant-is) (formant_fits c.args.a y m.num_mem m.den_mem) in
+    let last : to_z w16 (of_z w16 (entry output 59)) ≡ entry output 59 = to_z-of_z fits in
     let r0 = ap nat_abs c.energy_from-r0.ensures.result_value in
     let r1 = back w64 c.correlate-r1.type_inv c.correlate-r1.ensures.value in
     let k = back w32 c.tilt_quotient.type_inv (c.tilt_quotient.ensures ∙ (λ i. tilt_of (r1 i) (r0 i))) in
