@@ -13,18 +13,19 @@ pub fn isqrt64(v: u64) -> u32
         return 0;
     }
     let mut x = v;
-    let mut r: u64 = 0;
+    let mut r = 0;
     // The highest power of four that is at most v.
-    let mut bit: u64 = 1 << (62 - u64::leading_zeros(v) / 2 * 2);
+    let mut bit: u64 = 1 << (62 - v.leading_zeros() / 2 * 2);
+    // No counting loop: it goes down by bits from the highest that v has, and a `for` over all 32 would take more turns.
     while bit != 0 {
         let t = r + bit;
         if t <= x {
             x -= t;
             r = r / 2 + bit;
         } else {
-            r = r / 2;
+            r /= 2;
         }
-        bit = bit / 4;
+        bit /= 4;
     }
     r as u32
 }
