@@ -15,13 +15,7 @@ const TAPS: u8 = tables::ACB_TAPS as u8;
 pub fn limited_lag(lag: i32) -> usize
     ensures { result ≡ limited_lag lag }
 {
-    if lag < tables::PITCH_MIN {
-        return tables::PITCH_MIN as usize;
-    }
-    if tables::PITCH_MAX < lag {
-        return tables::PITCH_MAX as usize;
-    }
-    lag as usize
+    lag.clamp(tables::PITCH_MIN, tables::PITCH_MAX) as usize
 }
 
 // What the taps read: sixty samples and four more. Those that lie in the subframe itself repeat what was read a lag before.
@@ -31,14 +25,12 @@ fn delayed_samples(signal: &[i16; 386], p: usize, l: usize) -> [i16; 64]
     ensures { result ≡ tabulate (delayed signal.now p l) 64 }
 {
     let mut e = [0i16; 64];
-    let mut m: usize = 0;
-    while m < tables::ACB_SPAN {
-        if m < l + 2 {
-            e[m] = signal[p - (l + 2) + m];
+    for m in 0..tables::ACB_SPAN {
+        e[m] = if m < l + 2 {
+            signal[p - (l + 2) + m]
         } else {
-            e[m] = e[m - l];
-        }
-        m += 1;
+            e[m - l]
+        };
     }
     e
 }
@@ -58,12 +50,5 @@ pub fn acb_contribution(signal: &[i16; 386], s: Subframe, lag: i32, taps: [i16; 
     let p = excitation::subframe_place(s);
     let l = limited_lag(lag);
     let e = delayed_samples(signal, p, l);
-    let mut u = [0i32; 60];
-    let mut n: usize = 0;
-    while n < tables::SUBFRAME_SIZE {
-        let sum = correlation::correlate(&taps, 0, &e, n, TAPS);
-        u[n] = rounded_tap_sum(sum);
-        n += 1;
-    }
-    u
+    std::array::from_fn(|n| rounded_tap_sum(correlation::correlate(&taps, 0, &e, n, TAPS)))
 }
