@@ -2,14 +2,17 @@
 use mathlib.Core.Path.{◌≡◌, refl, sym, ap, ◌∙◌, subst}
 use mathlib.Core.Bool.{Bool, true, false, not, ◌&&◌}
 use mathlib.Core.Logic.{⊎_elim}
-use Prim.Native.Nat.{ℕ, zero, suc, ◌+◌, ◌≤◌, ◌<◌}
+use Prim.Native.Nat.{ℕ, zero, suc, ◌≤◌, ◌<◌}
 use native.Mathlib.Nat.{eq-or-lt_of_le}
-use native.Mathlib.Numerals.{add-one}
 use native.Mathlib.Omega.{arith}
 use lib.Dec.{T}
 use lib.IntN.{ℤ}
 use lib.Signed.{lt_z, ◌≤ℤ◌, lt_z_no, clash_ℤ, lt_z_yes}
-use Rattle.integers.specs.Truth.{both}
+use Rattle.std.specs.List.{list_all}
+use mathlib.Core.List.{List, [], ◌∷◌}
+use lib.ListN.{length}
+use Rattle.integers.specs.Base.{entry}
+use Rattle.integers.specs.Truth.{both, and-regroup}
 use Rattle.state.specs.State.{between, all_to}
 
 -- ---- bounds
@@ -33,14 +36,6 @@ module _ (lo hi z : ℤ) where
 -- ---- the first n tests
 
 module _ (t : ℕ → Bool) where
-  pub all_zero : all_to t 0 ≡ true
-  unfolding all_to
-  all_zero = refl
-
-  pub all_step : (n : ℕ) → all_to t (n + 1) ≡ (all_to t n && t n)
-  unfolding all_to
-  all_step n = ap (all_to t) (add-one n)
-
   pub all_at : (n : ℕ) → all_to t n ≡ true → (i : ℕ) → i < n → t i ≡ true
   unfolding all_to
   all_at zero h i p = absurd (let z : ⊥ = omega arith in z)
@@ -54,10 +49,19 @@ module _ (t : ℕ → Bool) where
   all_from zero h = refl
   all_from (suc n) h = λ i. all_from n (λ j p. h j (omega arith)) i && h n (omega arith) i
 
-  -- where one of them fails
-  pub all_fails : (n i : ℕ) → i < n → t i ≡ false → false ≡ all_to t n
-  all_fails n i p h = decided (all_to t n) refl
-    where
-      decided : (b : Bool) → all_to t n ≡ b → false ≡ b
-      decided true e = sym h ∙ all_at n e i p
-      decided false e = refl
+-- no more tests
+pub and_true : (b : Bool) → (b && true) ≡ b
+and_true true = refl
+and_true false = refl
+
+-- the tests of the entries of a list
+all_first : (t : ℕ → Bool) (n : ℕ) → (t 0 && all_to (λ i. t (suc i)) n) ≡ all_to t (suc n)
+unfolding all_to
+all_first t zero = and_true (t 0)
+all_first t (suc n) =
+    sym (and-regroup (t 0) (all_to (λ i. t (suc i)) n) (t (suc n))) ∙ ap (λ (b : Bool). b && t (suc n)) (all_first t n)
+
+pub all_listed : (t : ℤ → Bool) (xs : List ℤ) → list_all t xs ≡ all_to (λ i. t (entry xs i)) (length xs)
+unfolding all_to
+all_listed t [] = refl
+all_listed t (x ∷ xs) = ap (λ (b : Bool). t x && b) (all_listed t xs) ∙ all_first (λ i. t (entry (x ∷ xs) i)) (length xs)

@@ -25,8 +25,8 @@ fn fresh_postfilter() -> Postfilter
     ensures { result ≡ fresh_postfilter }
 {
     Postfilter {
-        num_mem: [0i16; 10],
-        den_mem: [0i16; 10],
+        num_mem: [0; 10],
+        den_mem: [0; 10],
         tilt_prev: 0,
         tilt_k1: 0,
         agc_gain_q12: tables::AGC_ONE_Q12,
@@ -34,61 +34,52 @@ fn fresh_postfilter() -> Postfilter
 }
 
 // A fresh state with the postfilter on or off.
+#[tactic(auto, unfolding(crate::specs::State::fresh_state))]
 pub fn fresh(postfilter: bool) -> State
     ensures { result ≡ fresh_state postfilter }
 {
-    let lsps = tables::lsp_dc();
-    let pf = fresh_postfilter();
     State {
-        prev_lsp: lsps,
-        exc_hist: [0i32; 146],
-        syn_mem: [0i32; 10],
-        pf: pf,
+        prev_lsp: tables::lsp_dc(),
+        exc_hist: [0; 146],
+        syn_mem: [0; 10],
+        pf: fresh_postfilter(),
         last_lag: tables::FRESH_LAG,
         last_lag2: tables::FRESH_LAG,
         last_taps_sum_q15: 0,
         last_gain_unvoiced: 0,
-        pcm_hist: [0i16; 120],
+        pcm_hist: [0; 120],
         erased_run: 0,
-        postfilter: postfilter,
+        postfilter,
     }
 }
 
 fn is_between(lo: i32, hi: i32, z: i32) -> bool
     ensures { result ≡ between lo hi z }
 {
-    !(z < lo) && !(hi < z)
+    (lo..=hi).contains(&z)
 }
 
 fn are_words(xs: &[i32]) -> bool
     ensures { result ≡ are_words xs.now (length xs.now) }
 {
-    let mut i: usize = 0;
-    while i < xs.len() {
-        if !is_between(-32768, 32767, xs[i]) {
-            return false;
-        }
-        i += 1;
-    }
-    true
+    xs.iter().all(|x| is_between(-32768, 32767, *x))
 }
 
+// In the order in which they are defined, so that each test is one of the definition's.
 fn numbers_in_bounds(state: State) -> bool
     ensures { result ≡ are_in_bounds (bounded_numbers state) }
 {
-    let pf = state.pf;
-    is_between(0, tables::AGC_GAIN_MAX_Q12, pf.agc_gain_q12)
-        && is_between(tables::LAST_LAG_MIN, tables::LAST_LAG_MAX, state.last_lag)
-        && is_between(tables::PITCH_MIN, tables::LAST_LAG2_MAX, state.last_lag2)
-        && is_between(0, tables::TAPS_SUM_MAX_Q15, state.last_taps_sum_q15)
-        && is_between(0, tables::GAIN_UNVOICED_MAX, state.last_gain_unvoiced)
+    is_between(0, tables::AGC_GAIN_MAX_Q12, state.pf.agc_gain_q12)
+        && (is_between(tables::LAST_LAG_MIN, tables::LAST_LAG_MAX, state.last_lag)
+            && (is_between(tables::PITCH_MIN, tables::LAST_LAG2_MAX, state.last_lag2)
+                && (is_between(0, tables::TAPS_SUM_MAX_Q15, state.last_taps_sum_q15)
+                    && is_between(0, tables::GAIN_UNVOICED_MAX, state.last_gain_unvoiced))))
 }
 
 // Number 2 is not given.
+#[tactic(auto, unfolding(crate::specs::State::in_bounds))]
 pub fn in_bounds(state: State) -> bool
     ensures { result ≡ in_bounds state }
 {
-    let history = state.exc_hist;
-    let memory = state.syn_mem;
-    are_words(&history) && are_words(&memory) && numbers_in_bounds(state)
+    are_words(&state.exc_hist) && are_words(&state.syn_mem) && numbers_in_bounds(state)
 }
