@@ -1,5 +1,4 @@
 pub mod Tallies
-pub mod Text
 pub mod Decimal
 pub mod Ascending
 pub mod Values

@@ -1,7 +1,6 @@
 -- The counts of the numbers that were given (document 01, "Program `frames`"): N, the number in two digits, a space and the count in decimal, for each number seen, in ascending number (document 02, E3).
-use Rattle.std.specs.Prelude.{Bool, cond, ◌&&◌, List, [], ◌∷◌, ◌++◌, ◌≡◌, ℕ, zero, suc, ◌+◌, ◌-◌, ◌/◌, ◌%◌, ◌^◌, min, eqb, ltb, get_or, set, length, replicate}
+use Rattle.std.specs.Prelude.{Bool, cond, ◌&&◌, List, [], ◌∷◌, ◌++◌, ◌≡◌, ℕ, zero, suc, ◌+◌, ◌-◌, ◌/◌, ◌%◌, ◌^◌, min, eqb, ltb, get_or, set}
 use Rattle.tables.specs.Constants.{numbers_counted}
-use Rattle.counts.specs.declared.Closing.{Closing}
 
 -- how many of ns are n
 unfoldable pub how_many : ℕ → List ℕ → ℕ
@@ -55,7 +54,3 @@ seen_below count (suc n) = seen_below count n ++ cond (is_seen count n) (n ∷ [
 -- the closing lines: those of the numbers 1 to 11 that were seen, from the least on
 abbrev pub closing : (ℕ → ℕ) → List ℕ
 closing count = count_lines count (seen_below count numbers_counted)
-
--- text at the start of 275 bytes, room for eleven lines of 25, which are zeros after it
-abbrev pub closing_text : List ℕ → Closing
-closing_text l = record { bytes = l ++ replicate (275 - length l) 0; len = length l }

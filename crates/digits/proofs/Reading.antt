@@ -1,39 +1,43 @@
--- The loop of `digit_pairs`: what holds after i pairs of a text of at most 1,098 characters.
-use mathlib.Core.Path.{◌≡◌, refl, sym, ap, ◌∙◌}
-use mathlib.Core.Bool.{Bool, true, false, ◌&&◌}
-use mathlib.Core.List.{List, ◌++◌}
-use Prim.Native.Nat.{ℕ, suc, ◌+◌, ◌*◌, ◌/◌, ◌%◌, ◌≤◌, ◌<◌}
+-- The loop of `digit_pairs`: what holds after i pairs, and where it ends.
+use Rattle.std.specs.Prelude.{◌≡◌, Bool, true, false, cond, ◌&&◌, List, [], ◌∷◌, ◌++◌, ℕ, zero, suc, ◌+◌, ◌*◌, ◌/◌, ◌%◌, ◌≤◌, ◌<◌, eqb, leb, length, get_or, Some, None}
+use Rattle.std.proofs.Common.{refl, sym, ap, ◌∙◌, arith, eq-eqb, le-leb, inl, inr}
+use Rattle.std.proofs.lemmas.Bool.{lt-leb}
+use borrow.Author.Tests.{ne_eqb}
 use native.Mathlib.Numerals.{add-one}
-use native.Mathlib.Omega.{arith}
-use lib.Dec.{eqb}
-use lib.ListN.{length, get_or, set, drop, replicate, length-replicate}
-use borrow.Author.Tests.{le-leb, lt-leb, eqb-true}
 use Rattle.integers.specs.Base.{tabulate}
-use Rattle.integers.specs.Fill.{rest-start, rest-next}
-use Rattle.integers.specs.Truth.{and-regroup}
-use Rattle.digits.proofs.Characters.{drop-replicate}
-use Rattle.digits.specs.Digits.{is_digit, are_digits, has_pairs, pair_value, bytes_of, longest_record, pairs_of}
+use Rattle.integers.specs.Fill.{tabulate-zero, tabulate-step, tabulate-length}
+use Rattle.integers.specs.Natural.{le-or-lt}
+use Rattle.digits.specs.Digits.{is_digit, digit_value, digit_of, are_digits, has_pairs, pair_value, pairs_of}
 
-abbrev pub zeros : List ℕ
-zeros = replicate longest_record 0
+and_false : (t : Bool) → (t && false) ≡ false
+and_false true = refl
+and_false false = refl
 
--- whether the text is digits so far, and cannot be halved
-abbrev pub digits_to : List ℕ → ℕ → Bool
-digits_to text i = eqb (length text % 2) 0 && are_digits text (2 * i)
+pub record Reading (text bytes : List ℕ) (i : ℕ) : Type 0 where
+  pub read : bytes ≡ tabulate (pair_value text) i
+  pub digits : are_digits text (2 * i) ≡ true
 
-pub record Reading (text bytes : List ℕ) (are : Bool) (i : ℕ) : Type 0 where
-  pub short : length text ≤ 1098
-  pub inside : i ≤ length text / 2
-  pub read : bytes ≡ tabulate (pair_value text) i ++ drop i zeros
-  pub digits : are ≡ digits_to text i
-
-pub reading_start : (text : List ℕ) (are : Bool) → length text ≤ 1098 → are ≡ eqb (length text % 2) 0 → Reading text zeros are 0
+pub reading_start : (text : List ℕ) {bytes : List ℕ} → bytes ≡ [] → Reading text bytes 0
 unfolding are_digits
-reading_start text are h e = record { short = h; inside = omega arith; read = rest-start (pair_value text) zeros; digits = e ∙ sym (and_true (eqb (length text % 2) 0)) }
+reading_start text e = record { read = e ∙ sym (tabulate-zero (pair_value text)); digits = refl }
+
+pub reading_length : {text bytes : List ℕ} {i : ℕ} → Reading text bytes i → length bytes ≡ i
+reading_length {text} {bytes} {i} r = ap length r.read ∙ tabulate-length (pair_value text) i
+
+-- a character that is a digit, by its value
+digit_some : (b d : ℕ) → Some d ≡ digit_of b → (is_digit b ≡ true) × (d ≡ digit_value b)
+digit_some b d = by (is_digit b)
   where
-    and_true : (b : Bool) → (b && true) ≡ b
-    and_true true = refl
-    and_true false = refl
+    by : (t : Bool) → Some d ≡ cond t (Some (digit_value b)) None → (t ≡ true) × (d ≡ digit_value b)
+    by true e = (refl, cc)
+    by false e = absurd (let z : ⊥ = cc in z)
+
+digit_none : (b : ℕ) → None ≡ digit_of b → is_digit b ≡ false
+digit_none b = by (is_digit b)
+  where
+    by : (t : Bool) → None ≡ cond t (Some (digit_value b)) None → t ≡ false
+    by true e = absurd (let z : ⊥ = cc in z)
+    by false e = refl
 
 two_more : (text : List ℕ) (i : ℕ) → are_digits text (2 * (i + 1)) ≡ ((are_digits text (2 * i) && is_digit (get_or text (2 * i) 0)) && is_digit (get_or text (2 * i + 1) 0))
 unfolding are_digits
@@ -41,40 +45,45 @@ two_more text i =
     let e : 2 * (i + 1) ≡ suc (suc (2 * i)) = omega arith in
     rw e (ap (λ (k : ℕ). (are_digits text (2 * i) && is_digit (get_or text (2 * i) 0)) && is_digit (get_or text k 0)) (sym (add-one (2 * i))))
 
-pub reading_next : (text bytes : List ℕ) (are next : Bool) (v i : ℕ) → Reading text bytes are i → i < length text / 2 → v ≡ pair_value text i
-    → next ≡ ((are && is_digit (get_or text (2 * i) 0)) && is_digit (get_or text (2 * i + 1) 0)) → Reading text (set bytes i v) next (i + 1)
-reading_next text bytes are next v i r h e n = record {
-  short = r.short;
-  inside = omega arith;
-  read = (λ k. set (r.read k) i (e k)) ∙ rest-next (pair_value text) zeros i 0 (omega (arith, length-replicate {A = ℕ} longest_record 0, r.short));
-  digits =
-      let p = eqb (length text % 2) 0 in
-      let q = are_digits text (2 * i) in
-      let a = is_digit (get_or text (2 * i) 0) in
-      let b = is_digit (get_or text (2 * i + 1) 0) in
-      n ∙ (λ k. (r.digits k && a) && b) ∙ (λ k. and-regroup p q a k && b) ∙ and-regroup p (q && a) b ∙ ap (λ (t : Bool). p && t) (sym (two_more text i));
-}
+pub reading_next : {text bytes : List ℕ} {i a b : ℕ} → Reading text bytes i → Some a ≡ digit_of (get_or text (2 * i) 0) → Some b ≡ digit_of (get_or text (2 * i + 1) 0)
+    → {next : List ℕ} → next ≡ bytes ++ (16 * a + b) ∷ [] → Reading text next (i + 1)
+reading_next {text} {bytes} {i} {a} {b} r ea eb e =
+    let p = digit_some _ _ ea in
+    let q = digit_some _ _ eb in
+    record {
+      read = e ∙ (λ k. r.read k ++ (16 * p.1 k + q.1 k) ∷ []) ∙ sym (tabulate-step (pair_value text) i);
+      digits = two_more text i ∙ (λ k. (r.digits k && p.0 k) && q.0 k);
+    }
 
--- where the length is odd, both are false
-all_digits : (text : List ℕ) → digits_to text (length text / 2) ≡ has_pairs text
-all_digits text =
-    by (eqb (length text % 2) 0) (λ h. ap (are_digits text) (even (eqb-true (length text % 2) 0 h)))
-  where
-    even : length text % 2 ≡ 0 → 2 * (length text / 2) ≡ length text
-    even h = omega arith
-
-    by : (p : Bool) {x y : Bool} → (p ≡ true → x ≡ y) → (p && x) ≡ (p && y)
-    by true e = e refl
-    by false e = refl
-
-pub reading_end : (text bytes : List ℕ) (are : Bool) (i : ℕ) → Reading text bytes are i → length text / 2 ≤ i
-    → record { are_pairs = are; bytes = bytes; count = length text / 2 } ≡ pairs_of text
+pub reading_end : {text bytes : List ℕ} {i : ℕ} → Reading text bytes i → length text ≤ 1098 → length text % 2 ≡ 0 → i ≡ length text / 2
+    → Some (record { items = bytes }) ≡ pairs_of text
 unfolding pairs_of
-reading_end text bytes are i r h =
-    let e : i ≡ length text / 2 = omega (arith, r.inside) in
-    rw (le-leb (length text) 1098 r.short)
-    (λ k. record { are_pairs = (r.digits ∙ ap (digits_to text) e ∙ all_digits text) k; bytes = (r.read ∙ (λ j. tabulate (pair_value text) (e j) ++ drop (e j) zeros) ∙ ap (λ (l : List ℕ). bytes_of text ++ l) (drop-replicate 0 (length text / 2) longest_record)) k; count = length text / 2 })
+reading_end {text} {bytes} {i} r short even e =
+    let n : 2 * i ≡ length text = omega arith in
+    rw (le-leb (length text) 1098 short, eq-eqb (length text % 2) 0 even, sym (ap (are_digits text) n) ∙ r.digits)
+    (λ k. Some (record { items = (r.read ∙ ap (tabulate (pair_value text)) e) k }))
 
-pub too_long : (text : List ℕ) → 1098 < length text → record { are_pairs = false; bytes = zeros; count = 0 } ≡ pairs_of text
+-- where one of the first n characters is no digit
+not_digits : (text : List ℕ) (n k : ℕ) → k < n → is_digit (get_or text k 0) ≡ false → are_digits text n ≡ false
+unfolding are_digits
+not_digits text zero k h e = absurd (let z : ⊥ = omega arith in z)
+not_digits text (suc n) k h e =
+    elim (le-or-lt n k) [
+      | inl w ↦ let s : n ≡ k = omega arith in ap (λ (t : Bool). are_digits text n && t) (ap (λ (m : ℕ). is_digit (get_or text m 0)) s ∙ e) ∙ and_false (are_digits text n)
+      | inr w ↦ ap (λ (t : Bool). t && is_digit (get_or text n 0)) (not_digits text n k w e)
+    ]
+
+no_pairs : (text : List ℕ) → has_pairs text ≡ false → None ≡ pairs_of text
 unfolding pairs_of
-too_long text h = rw (lt-leb (length text) 1098 h)
+no_pairs text e = rw (e, and_false (leb (length text) 1098)) refl
+
+pub no_digit : (text : List ℕ) (k : ℕ) → k < length text → None ≡ digit_of (get_or text k 0) → None ≡ pairs_of text
+no_digit text k h e =
+    no_pairs text (ap (λ (t : Bool). eqb (length text % 2) 0 && t) (not_digits text (length text) k h (digit_none _ e)) ∙ and_false (eqb (length text % 2) 0))
+
+pub odd : (text : List ℕ) → 0 < length text % 2 → None ≡ pairs_of text
+odd text h = no_pairs text (ap (λ (t : Bool). t && are_digits text (length text)) (ne_eqb (length text % 2) 0 (λ e. omega arith)))
+
+pub too_long : (text : List ℕ) → 1098 < length text → None ≡ pairs_of text
+unfolding pairs_of
+too_long text h = rw (lt-leb (length text) 1098 h) refl

@@ -1,54 +1,40 @@
--- The loop of `sample_line`: the digits of i samples.
-use mathlib.Core.Path.{◌≡◌, refl, sym, ap, ◌∙◌}
-use mathlib.Core.List.{List, ◌++◌}
-use Prim.Native.Nat.{ℕ, ◌+◌, ◌-◌, ◌*◌, ◌/◌, ◌%◌, ◌^◌, ◌≤◌, ◌<◌}
-use native.Mathlib.Omega.{arith}
-use lib.IntN.{ℤ}
-use lib.ListN.{set, drop, replicate, length-replicate}
+-- The digits of samples, four by four, are the characters of their line.
+use Rattle.std.specs.Prelude.{◌≡◌, List, [], ◌∷◌, ◌++◌, ℕ, zero, suc, ◌+◌, ◌-◌, ◌*◌, ◌/◌, ◌%◌, ◌^◌, ◌<◌, ℤ}
+use Rattle.std.specs.List.{flat_map}
+use Rattle.std.proofs.Common.{refl, sym, ap, ◌∙◌, arith}
+use Rattle.std.proofs.lemmas.List.Concat.{flat_map-append}
+use mathlib.Core.List.{append_assoc}
 use Rattle.integers.specs.Base.{entry, tabulate}
-use Rattle.integers.specs.Fill.{rest-start, rest-next}
-use Rattle.digits.proofs.Characters.{drop-replicate}
-use Rattle.digits.specs.Digits.{image, glyph, digit_at, sample_line}
+use Rattle.digits.specs.Digits.{image, glyph, sample_digits, digit_at, sample_line}
 
-abbrev pub newlines : List ℕ
-newlines = replicate 961 10
-
-pub record Written (xs : List ℤ) (line : List ℕ) (i : ℕ) : Type 0 where
-  pub inside : i ≤ 240
-  pub digits : line ≡ tabulate (digit_at xs) (4 * i) ++ drop (4 * i) newlines
-
-pub written_start : (xs : List ℤ) → Written xs newlines 0
-written_start xs = record { inside = omega arith; digits = rest-start (digit_at xs) newlines }
-
--- digit j of sample i, whose image is n
-digit_is : (xs : List ℤ) (i j k n : ℕ) → j < 4 → k ≡ 4 * i + j → n ≡ image (entry xs i) → glyph (n / 16 ^ (3 - j) % 16) ≡ digit_at xs k
-digit_is xs i j k n h g e =
+-- digit j of sample i
+digit_is : (xs : List ℤ) (i j k : ℕ) → j < 4 → k ≡ 4 * i + j → glyph (image (entry xs i) / 16 ^ (3 - j) % 16) ≡ digit_at xs k
+digit_is xs i j k h g =
     let q : i ≡ k / 4 = omega arith in
     let r : j ≡ k % 4 = omega arith in
-    ap (λ (m : ℕ). glyph (m / 16 ^ (3 - j) % 16)) e ∙ (λ t. glyph (image (entry xs (q t)) / 16 ^ (3 - r t) % 16))
+    λ t. glyph (image (entry xs (q t)) / 16 ^ (3 - r t) % 16)
 
--- the first k digits are written
-abbrev To : List ℤ → List ℕ → ℕ → Type 0
-To xs line k = line ≡ tabulate (digit_at xs) k ++ drop k newlines
+four : (g : ℕ → ℕ) (n : ℕ) → tabulate g (4 * suc n) ≡ tabulate g (4 * n) ++ g (4 * n) ∷ g (suc (4 * n)) ∷ g (suc (suc (4 * n))) ∷ g (suc (suc (suc (4 * n)))) ∷ []
+unfolding tabulate
+four g n =
+    let e : 4 * suc n ≡ suc (suc (suc (suc (4 * n)))) = omega arith in
+    ap (tabulate g) e ∙ simp append_assoc
 
-turn : (xs : List ℤ) (line : List ℕ) (k m v : ℕ) → To xs line k → m ≡ k + 1 → k < 961 → v ≡ digit_at xs k → To xs (set line k v) m
-turn xs line k m v e n h g =
-    (λ i. set (e i) k (g i)) ∙ rest-next (digit_at xs) newlines k 0 (omega (arith, length-replicate {A = ℕ} 961 10)) ∙ (λ i. tabulate (digit_at xs) (sym n i) ++ drop (sym n i) newlines)
+sample_is : (xs : List ℤ) (n : ℕ) → sample_digits (entry xs n) ≡ digit_at xs (4 * n) ∷ digit_at xs (suc (4 * n)) ∷ digit_at xs (suc (suc (4 * n))) ∷ digit_at xs (suc (suc (suc (4 * n)))) ∷ []
+unfolding sample_digits
+sample_is xs n =
+    let z : image (entry xs n) ≡ image (entry xs n) / 1 = omega arith in
+    λ t. digit_is xs n 0 (4 * n) (omega arith) (omega arith) t ∷ digit_is xs n 1 (suc (4 * n)) (omega arith) (omega arith) t
+    ∷ digit_is xs n 2 (suc (suc (4 * n))) (omega arith) (omega arith) t
+    ∷ (ap (λ (m : ℕ). glyph (m % 16)) z ∙ digit_is xs n 3 (suc (suc (suc (4 * n)))) (omega arith) (omega arith)) t ∷ []
 
--- the four digits of a sample whose image is n
-pub written_next : (xs : List ℤ) (line : List ℕ) (i n a b c d : ℕ) → Written xs line i → i < 240 → n ≡ image (entry xs i)
-    → a ≡ glyph (n / 4096 % 16) → b ≡ glyph (n / 256 % 16) → c ≡ glyph (n / 16 % 16) → d ≡ glyph (n % 16)
-    → Written xs (set (set (set (set line (4 * i) a) (4 * i + 1) b) (4 * i + 2) c) (4 * i + 3) d) (i + 1)
-written_next xs line i n a b c d w h e ea eb ec ed =
-    let z : n ≡ n / 16 ^ (3 - 3) = omega arith in
-    let p = turn xs line (4 * i) (4 * i + 1) a w.digits refl (omega arith) (ea ∙ digit_is xs i 0 (4 * i) n (omega arith) (omega arith) e) in
-    let q = turn xs (set line (4 * i) a) (4 * i + 1) (4 * i + 2) b p (omega arith) (omega arith) (eb ∙ digit_is xs i 1 (4 * i + 1) n (omega arith) (omega arith) e) in
-    let r = turn xs (set (set line (4 * i) a) (4 * i + 1) b) (4 * i + 2) (4 * i + 3) c q (omega arith) (omega arith) (ec ∙ digit_is xs i 2 (4 * i + 2) n (omega arith) (omega arith) e) in
-    record {
-      inside = omega arith;
-      digits = turn xs (set (set (set line (4 * i) a) (4 * i + 1) b) (4 * i + 2) c) (4 * i + 3) (4 * (i + 1)) d r (omega arith) (omega arith) (ed ∙ ap (λ (m : ℕ). glyph (m % 16)) z ∙ digit_is xs i 3 (4 * i + 3) n (omega arith) (omega arith) e);
-    }
+all_digits : (xs : List ℤ) (n : ℕ) → flat_map (λ ds. ds) (tabulate (λ i. sample_digits (entry xs i)) n) ≡ tabulate (digit_at xs) (4 * n)
+unfolding tabulate sample_digits
+all_digits xs zero = refl
+all_digits xs (suc n) =
+    flat_map-append (λ ds. ds) (tabulate (λ i. sample_digits (entry xs i)) n) (sample_digits (entry xs n) ∷ [])
+    ∙ (λ t. all_digits xs n t ++ sample_is xs n t) ∙ sym (four (digit_at xs) n)
 
-pub written_end : (xs : List ℤ) (line : List ℕ) (i : ℕ) → Written xs line i → 240 ≤ i → line ≡ sample_line xs
+pub line_is : (xs : List ℤ) {ds : List ℕ} → ds ≡ flat_map (λ ds. ds) (tabulate (λ i. sample_digits (entry xs i)) 240) → ds ++ 10 ∷ [] ≡ sample_line xs
 unfolding sample_line
-written_end xs line i w h = let e : i ≡ 240 = omega (arith, w.inside) in w.digits ∙ (λ k. tabulate (digit_at xs) (4 * e k) ++ drop (4 * e k) newlines) ∙ ap (λ (l : List ℕ). tabulate (digit_at xs) 960 ++ l) (drop-replicate 10 960 961)
+line_is xs e = ap (λ (l : List ℕ). l ++ 10 ∷ []) (e ∙ all_digits xs 240)

@@ -1,8 +1,8 @@
 -- Hexadecimal text (document 01, "Program `frames`"): digit pairs of either letter case in, four uppercase digits for a sample out.
-use Rattle.std.specs.Prelude.{Bool, true, false, cond, ◌&&◌, ◌||◌, List, [], ◌∷◌, ◌++◌, ℕ, zero, suc, ◌+◌, ◌-◌, ◌*◌, ◌/◌, ◌%◌, ◌^◌, leb, eqb, ltb, ℤ, pos, ◌+ℤ◌, length, get_or, replicate}
+use Rattle.std.specs.Prelude.{Bool, true, cond, ◌&&◌, ◌||◌, List, [], ◌∷◌, ◌++◌, ℕ, zero, suc, ◌+◌, ◌-◌, ◌*◌, ◌/◌, ◌%◌, ◌^◌, leb, eqb, ltb, ℤ, pos, ◌+ℤ◌, length, get_or, Option, Some, None}
 use Rattle.integers.specs.Base.{up, entry, tabulate}
 use Rattle.tables.specs.Constants.{frame_size, line_max}
-use Rattle.digits.specs.declared.Pairs.{Pairs}
+use Rattle.arrayvec.specs.ArrayVec.{ArrayVec}
 
 -- ---- in
 
@@ -18,9 +18,9 @@ is_digit b = among 48 57 b || (among 65 70 b || among 97 102 b)
 unfoldable pub digit_value : ℕ → ℕ
 digit_value b = cond (among 48 57 b) (b - 48) (cond (among 65 70 b) (b - 55) (cond (among 97 102 b) (b - 87) 0))
 
--- both in one number: the value, 16 where there is none
-abbrev pub digit_code : ℕ → ℕ
-digit_code b = cond (is_digit b) (digit_value b) 16
+-- both in one: the value of a digit, where it is one
+abbrev pub digit_of : ℕ → Option ℕ
+digit_of b = cond (is_digit b) (Some (digit_value b)) None
 
 -- the first n characters are digits
 unfoldable pub are_digits : List ℕ → ℕ → Bool
@@ -39,20 +39,9 @@ pair_value text i = 16 * digit_value (get_or text (2 * i) 0) + digit_value (get_
 abbrev pub bytes_of : List ℕ → List ℕ
 bytes_of text = tabulate (pair_value text) (length text / 2)
 
--- the bytes of the longest line
-abbrev pub longest_record : ℕ
-longest_record = line_max / 2
-
 -- what `digit_pairs` answers: a text of more than 1,098 characters is not read
-unfoldable pub pairs_of : List ℕ → Pairs
-pairs_of text =
-    cond (leb (length text) line_max)
-    (record {
-      are_pairs = has_pairs text;
-      bytes = bytes_of text ++ replicate (longest_record - length text / 2) 0;
-      count = length text / 2;
-    })
-    (record { are_pairs = false; bytes = replicate longest_record 0; count = 0 })
+unfoldable pub pairs_of : List ℕ → Option (ArrayVec ℕ)
+pairs_of text = cond (leb (length text) line_max && has_pairs text) (Some (record { items = bytes_of text })) None
 
 -- ---- out
 
@@ -63,6 +52,10 @@ image z = up (z +ℤ pos 65536) % 65536
 -- the character of a digit below 16: `0` to `9`, then `A` to `F`
 abbrev pub glyph : ℕ → ℕ
 glyph d = cond (ltb d 10) (48 + d) (55 + d)
+
+-- its four digits, the highest first
+unfoldable pub sample_digits : ℤ → List ℕ
+sample_digits z = glyph (image z / 4096 % 16) ∷ glyph (image z / 256 % 16) ∷ glyph (image z / 16 % 16) ∷ glyph (image z % 16) ∷ []
 
 -- character k of the text of samples: digit k % 4 of sample k / 4, the highest first
 abbrev pub digit_at : List ℤ → ℕ → ℕ
