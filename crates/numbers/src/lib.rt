@@ -1,8 +1,8 @@
 // The ten numbers by their meaning.
 #![tactic(auto)]
 
-ghost use Rattle.std.specs.Prelude.{◌≡◌};
-ghost use Rattle.numbers.specs.Numbers.{number};
+ghost use Rattle.std.specs.Prelude.{◌≡◌, Some};
+ghost use Rattle.numbers.specs.Numbers.{number, cause};
 
 use std::error::Error;
 use std::fmt;
@@ -33,6 +33,8 @@ impl From<Refusal> for u8 {
 
 // What causes it, in a few words.
 impl fmt::Display for Refusal {
+    ghost output = { λ n. Some (cause n) };
+
     fn fmt<W: fmt::Write>(&self, f: &mut fmt::Formatter<W>) -> fmt::Result {
         match self {
             Refusal::SampleLength => write!(f, "the samples lent are not 240"),
