@@ -1,15 +1,18 @@
 -- The products that a correlation sums, and what their sum is within.
-use mathlib.Core.Path.{◌≡◌, refl, sym, ap, ◌∙◌}
+use mathlib.Core.Path.{◌≡◌, refl, sym, ap, ◌∙◌, subst}
 use mathlib.Core.List.{List}
 use mathlib.Core.Logic.{◌⊎◌, inl, inr, ⊎_elim}
 use Prim.Native.Nat.{ℕ, zero, suc, ◌+◌, ◌-◌, ◌*◌, ◌^◌, ◌≤◌, ◌<◌, min}
-use native.Mathlib.Nat.{eq-or-lt_of_le, zero-mul, mul-zero}
+use native.Mathlib.Nat.{eq-or-lt_of_le, zero-mul, mul-zero, mul-le-mul_right}
 use native.Mathlib.Omega.{arith}
-use lib.IntN.{ℤ, pos, negsuc, neg_ℤ, ◌*ℤ◌}
+use lib.Dec.{T, ltb}
+use lib.IntN.{ℤ, pos, negsuc, neg_ℤ, ◌+ℤ◌, ◌*ℤ◌}
 use lib.ListN.{length, get_or-eq_default}
 use lib.Signed.{◌≤ℤ◌}
+use mir.Syntax.{Width}
+use mir.Val.{SFits, hbits}
 use Rattle.integers.specs.Base.{sum_to, entry, Within}
-use Rattle.integers.specs.Bound.{within-add}
+use Rattle.integers.specs.Bound.{within-add, within-le, fits-within}
 use Rattle.integers.specs.Natural.{le-or-lt}
 use Rattle.integers.specs.Linear.{line, line-add}
 use Rattle.integers.specs.Sum.{sum-zero, sum_step, sum_nonneg, square-is}
@@ -22,11 +25,26 @@ pub correlation-is : (x : List ℤ) (a : ℕ) (y : List ℤ) (b n : ℕ) → cor
 unfolding correlation
 correlation-is x a y b n = refl
 
-pub bounded-start : (f : ℕ → ℤ) → Within (0 * 2 ^ 30) (sum_to f 0)
-bounded-start f = record { within = rw (sum-zero f) (omega arith) }
+-- acc is the sum of n numbers of f, each within B
+pub record Summed (B : ℕ) (f : ℕ → ℤ) (acc : ℤ) (n : ℕ) : Type 0 where
+  pub is : acc ≡ sum_to f n
+  pub small : Within (n * B) acc
 
-pub bounded-next : (f : ℕ → ℤ) (n : ℕ) → Within (n * 2 ^ 30) (sum_to f n) → Within (2 ^ 30) (f n) → Within ((n + 1) * 2 ^ 30) (sum_to f (n + 1))
-bounded-next f n s t = record { within = rw (sum_step f n) (omega (arith, (within-add s t).within)) }
+pub summed-start : (B : ℕ) (f : ℕ → ℤ) → Summed B f (pos 0) 0
+summed-start B f = record { is = sym (sum-zero f); small = record { within = omega arith } }
+
+pub summed-none : (B : ℕ) (f : ℕ → ℤ) → Summed B f (sum_to f 0) 0
+summed-none B f = subst (λ (z : ℤ). Summed B f z 0) (sym (sum-zero f)) (summed-start B f)
+
+module _ {B : ℕ} {f : ℕ → ℤ} {acc : ℤ} {n : ℕ} (s : Summed B f acc n) (small : Within B (f n)) where
+  pub summed-next : Summed B f (acc +ℤ f n) (n + 1)
+  summed-next = record {
+    is = ap (λ (z : ℤ). z +ℤ f n) s.is ∙ sym (sum_step f n);
+    small = within-le (within-add s.small small) (omega arith);
+  }
+
+  pub summed-fits : {w : Width} (N : ℕ) → n < N → T (ltb (N * B) (2 ^ hbits w)) → SFits w (acc +ℤ f n)
+  summed-fits {w} N h t = let k : n + 1 ≤ N = omega arith in fits-within (within-le summed-next.small (mul-le-mul_right B k)) t
 
 -- ---- past the end of a signal
 

@@ -9,17 +9,13 @@ ghost use Rattle.correlation.specs.Correlation.{correlation, energy};
 fn reach(len: usize, a: usize, n: usize) -> usize
     ensures { result ≡ min n (len - a) }
 {
-    if len <= a {
-        return 0;
-    }
-    let left = len - a;
-    if n < left { n } else { left }
+    n.min(len.saturating_sub(a))
 }
 
 fn product(x: i16, y: i16) -> i32
     ensures { result ≡ x *ℤ y }
 {
-    x as i32 * y as i32
+    i32::from(x) * i32::from(y)
 }
 
 // A product's floored 65536th, and what that leaves.
@@ -38,7 +34,7 @@ fn low_part(p: i32) -> i32
 fn joined(high: i32, low: i32) -> i64
     ensures { result ≡ high *ℤ pos 65536 +ℤ low }
 {
-    high as i64 * 65536 + low as i64
+    i64::from(high) * 65536 + i64::from(low)
 }
 
 // High and low parts are summed apart, each in 32 bits: the compiler makes such sums of several products at once, and sums of
@@ -48,16 +44,12 @@ fn sum_of_products(x: &[i16], a: usize, y: &[i16], b: usize, n: usize) -> i64
     ensures value { result ≡ correlation x.now a y.now b n }
     ensures within { Within (n * 2 ^ 30) result }
 {
-    let mut high: i32 = 0;
-    let mut low: i32 = 0;
-    let mut i: usize = 0;
-    while i < n {
+    let mut high = 0;
+    let mut low = 0;
+    for i in 0..n {
         let p = product(x[a + i], y[b + i]);
-        let h = high_part(p);
-        let l = low_part(p);
-        high += h;
-        low += l;
-        i += 1;
+        high += high_part(p);
+        low += low_part(p);
     }
     joined(high, low)
 }
@@ -66,7 +58,7 @@ pub fn correlate(x: &[i16], a: usize, y: &[i16], b: usize, n: u8) -> i64
     ensures value { result ≡ correlation x.now a y.now b n }
     ensures within { Within (n * 2 ^ 30) result }
 {
-    let m = reach(x.len(), a, n as usize);
+    let m = reach(x.len(), a, usize::from(n));
     let k = reach(y.len(), b, m);
     sum_of_products(x, a, y, b, k)
 }
@@ -75,6 +67,6 @@ pub fn energy_from(x: &[i16], a: usize, n: u8) -> u64
     ensures result_value { pos result ≡ energy x.now a n }
     ensures upper_bound { result ≤ n * 2 ^ 30 }
 {
-    let m = reach(x.len(), a, n as usize);
+    let m = reach(x.len(), a, usize::from(n));
     sum_of_products(x, a, x, a, m) as u64
 }

@@ -5,34 +5,23 @@ ghost use Rattle.std.specs.Prelude.{◌≡◌, length};
 ghost use Rattle.postfilter.specs.Postfilter.{filtered, postfilter_after};
 ghost use Rattle.output.specs.Output.{subframe_output, filters_after, frame_output, frame_filters, output_in, filters_in};
 
-use postfilter::{Filtered, Postfilter};
+use filters::SubframeOut;
+use postfilter::Postfilter;
 
 // The memories that the subframes hand on.
-#[derive(Clone, Copy)]
+#[derive(Clone, Copy, PartialEq, Eq, Debug)]
 pub struct Filters {
     pub syn_mem: [i16; 10],
     pub pf: Postfilter,
 }
 
-// The part that is lent becomes the subframe.
-fn write_samples(part: &mut [i16], out: [i16; 60])
-    requires { length part.old ≡ 60 }
-    ensures { part.new ≡ out }
-{
-    let mut n: usize = 0;
-    while n < tables::SUBFRAME_SIZE {
-        part[n] = out[n];
-        n += 1;
-    }
-}
-
 // The memory of formant, tilt and gain is lent to them for the subframe.
-fn postfilter_subframe(pf: Postfilter, a: [i16; 10], y: [i16; 60]) -> Filtered
-    ensures { (result.out ≡ filtered pf a y) × (result.pf ≡ postfilter_after pf a y) }
+fn postfilter_subframe(pf: Postfilter, a: [i16; 10], y: [i16; 60]) -> SubframeOut<Postfilter>
+    ensures { (result.out ≡ filtered pf a y) × (result.mem ≡ postfilter_after pf a y) }
 {
-    let mut kept = pf;
-    let out = postfilter::formant_agc_subframe(&mut kept, a, y);
-    Filtered { out: out, pf: kept }
+    let mut mem = pf;
+    let out = postfilter::formant_agc_subframe(&mut mem, a, y);
+    SubframeOut { out, mem }
 }
 
 // The output step of a subframe: its sixty samples into the part that is lent, and the memories after it.
@@ -41,26 +30,16 @@ fn output_subframe(part: &mut [i16], on: bool, a: [i16; 10], x: [i32; 60], f: Fi
     ensures memories { result ≡ filters_after on a x f }
     ensures samples { part.new ≡ subframe_output on a x f }
 {
-    let mem = f.syn_mem;
-    let y = synthesis::synthesis_subframe(a, &x, mem);
+    let y = synthesis::synthesis_subframe(a, &x, f.syn_mem);
     let out = y.out;
-    let after = y.mem;
-    let pf = f.pf;
+    let syn_mem = y.mem;
     if !on {
-        write_samples(part, out);
-        return Filters {
-            syn_mem: after,
-            pf: pf,
-        };
+        part.copy_from_slice(&out);
+        return Filters { syn_mem, pf: f.pf };
     }
-    let z = postfilter_subframe(pf, a, out);
-    let samples = z.out;
-    let kept = z.pf;
-    write_samples(part, samples);
-    Filters {
-        syn_mem: after,
-        pf: kept,
-    }
+    let z = postfilter_subframe(f.pf, a, out);
+    part.copy_from_slice(&z.out);
+    Filters { syn_mem, pf: z.mem }
 }
 
 // Each subframe writes only its sixty samples.
@@ -76,14 +55,10 @@ fn output_subframes(
     ensures samples { samples.new ≡ frame_output on sets inputs f }
 {
     let mut g = f;
-    let mut s: usize = 0;
-    while s < tables::SUBFRAMES_PER_FRAME {
-        let a = sets[s];
-        let x = inputs[s];
+    for s in 0..tables::SUBFRAMES_PER_FRAME {
         let at = tables::SUBFRAME_SIZE * s;
-        let after = output_subframe(&mut samples[at..at + tables::SUBFRAME_SIZE], on, a, x, g);
-        g = after;
-        s += 1;
+        let part = &mut samples[at..at + tables::SUBFRAME_SIZE];
+        g = output_subframe(part, on, sets[s], inputs[s], g);
     }
     g
 }
