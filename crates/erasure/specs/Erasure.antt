@@ -1,13 +1,11 @@
 -- The excitation of an erased frame (document 01, "Erasure"; the Rust's decode_erased; §3.10.2 of G.723.1). The signal is that of crate excitation.
-use Rattle.std.specs.Prelude.{List, ℕ, ◌+◌, ◌-◌, ◌%◌, ℤ, pos}
+use Rattle.std.specs.Prelude.{Option, Some, None, List, ℕ, ◌+◌, ◌-◌, ◌%◌, ℤ, pos}
 use Rattle.integers.specs.Base.{entry, tabulate}
 use Rattle.tables.specs.Constants.{subframe_size, exc_hist_size}
 use Rattle.basicop.specs.Operators.{mult16}
 use Rattle.excitation.specs.Excitation.{subframe_place, with_subframe, in_turn}
 use Rattle.excitation.specs.declared.Subframe.{Subframe}
 use Rattle.adaptive.specs.Adaptive.{limited_lag}
-use Rattle.voicing.specs.declared.Voicing.{Voicing}
-use Rattle.voicing.specs.declared.Voicing.TheVariants.{Unvoiced, Voiced}
 use Rattle.noise.specs.Noise.{attenuated, start_word, word_after, noise_subframe}
 
 -- ---- a subframe
@@ -26,7 +24,7 @@ noise_to gain w x s = with_subframe x (subframe_place s) (noise_subframe gain (w
 abbrev pub replay_to : ℕ → ℤ → List ℤ → Subframe → List ℤ
 replay_to l gain x s = with_subframe x (subframe_place s) (replayed x (subframe_place s) l gain)
 
--- all four, from the stored tap sum and unvoiced gain, and the run with this frame
-unfoldable pub erased_excitation : Voicing → ℤ → ℤ → ℕ → List ℤ → List ℤ
-erased_excitation Unvoiced tap_sum gain run x = in_turn (noise_to (attenuated gain run) (start_word run)) x
-erased_excitation (Voiced lag) tap_sum gain run x = in_turn (replay_to (limited_lag (pos lag)) (attenuated tap_sum run)) x
+-- all four, from the lag of a voiced frame, the stored tap sum and unvoiced gain, and the run with this frame
+unfoldable pub erased_excitation : Option ℕ → ℤ → ℤ → ℕ → List ℤ → List ℤ
+erased_excitation None tap_sum gain run x = in_turn (noise_to (attenuated gain run) (start_word run)) x
+erased_excitation (Some lag) tap_sum gain run x = in_turn (replay_to (limited_lag (pos lag)) (attenuated tap_sum run)) x

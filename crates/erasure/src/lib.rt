@@ -7,40 +7,35 @@ ghost use Rattle.adaptive.specs.Adaptive.{limited_lag};
 ghost use Rattle.erasure.specs.Erasure.{replayed, noise_to, replay_to, erased_excitation};
 
 use excitation::Subframe;
-use voicing::Voicing;
 
 fn replayed_subframe(signal: &[i16; 386], s: Subframe, lag: u8, gain: i16) -> [i16; 60]
     ensures { result ≡ replayed signal.now (subframe_place s) (limited_lag (pos lag)) gain }
 {
-    let l = adaptive::limited_lag(lag as i32);
+    let l = adaptive::limited_lag(i32::from(lag));
     let from = excitation::subframe_place(s) - l;
     let mut out = [0i16; 60];
-    let mut m: usize = 0;
-    let mut n: usize = 0;
-    while n < tables::SUBFRAME_SIZE {
-        out[n] = basicop::mult(signal[from + m], gain);
+    // Counted on, and not read at n % l: a remainder is a division, sixty of them a subframe.
+    let mut m = 0;
+    for sample in &mut out {
+        *sample = basicop::mult(signal[from + m], gain);
         m = if m + 1 < l { m + 1 } else { 0 };
-        n += 1;
     }
     out
 }
 
 // The noise word goes on from subframe to subframe.
-fn noise_frame(signal: [i16; 386], gain: i16, start: u32) -> [i16; 386]
+fn noise_frame(mut signal: [i16; 386], gain: i16, start: u32) -> [i16; 386]
     ensures { result ≡ in_turn (noise_to gain start) signal }
 {
-    let n0 = noise::noise_subframe(gain, start);
-    let n1 = noise::noise_subframe(gain, n0.word);
-    let n2 = noise::noise_subframe(gain, n1.word);
-    let n3 = noise::noise_subframe(gain, n2.word);
-    let e0 = n0.out;
-    let e1 = n1.out;
-    let e2 = n2.out;
-    let e3 = n3.out;
-    let x1 = excitation::push_excitation(signal, Subframe::Zero, e0);
-    let x2 = excitation::push_excitation(x1, Subframe::One, e1);
-    let x3 = excitation::push_excitation(x2, Subframe::Two, e2);
-    excitation::push_excitation(x3, Subframe::Three, e3)
+    let mut word = start;
+    for s in Subframe::ALL {
+        let noise = noise::noise_subframe(gain, word);
+        // By a name of its own: the check covers no call whose result is laid over an array that a loop changes.
+        let next = excitation::push_excitation(signal, s, noise.out);
+        signal = next;
+        word = noise.mem;
+    }
+    signal
 }
 
 // The signal with one subframe of replay.
@@ -51,19 +46,20 @@ fn replay_subframe(signal: [i16; 386], s: Subframe, lag: u8, gain: i16) -> [i16;
     excitation::push_excitation(signal, s, e)
 }
 
-fn replay_frame(signal: [i16; 386], lag: u8, gain: i16) -> [i16; 386]
+fn replay_frame(mut signal: [i16; 386], lag: u8, gain: i16) -> [i16; 386]
     ensures { result ≡ in_turn (replay_to (limited_lag (pos lag)) gain) signal }
 {
-    let x1 = replay_subframe(signal, Subframe::Zero, lag, gain);
-    let x2 = replay_subframe(x1, Subframe::One, lag, gain);
-    let x3 = replay_subframe(x2, Subframe::Two, lag, gain);
-    replay_subframe(x3, Subframe::Three, lag, gain)
+    for s in Subframe::ALL {
+        let next = replay_subframe(signal, s, lag, gain);
+        signal = next;
+    }
+    signal
 }
 
-// The signal with the excitation of a frame. run counts this frame.
+// The signal with the excitation of a frame: voicing is the lag of a voiced one, and run counts this frame.
 pub fn erased_excitation(
     signal: [i16; 386],
-    voicing: Voicing,
+    voicing: Option<u8>,
     tap_sum: i16,
     gain: i16,
     run: u32,
@@ -71,13 +67,13 @@ pub fn erased_excitation(
     ensures { result ≡ erased_excitation voicing tap_sum gain run signal }
 {
     match voicing {
-        Voicing::Unvoiced => {
+        Some(lag) => replay_frame(signal, lag, noise::attenuated_gain(tap_sum, run)),
+        None => {
             noise_frame(
                 signal,
                 noise::attenuated_gain(gain, run),
                 noise::noise_start(run),
             )
         }
-        Voicing::Voiced(lag) => replay_frame(signal, lag, noise::attenuated_gain(tap_sum, run)),
     }
 }

@@ -1,4 +1,3 @@
 pub mod Words
 pub mod Attenuation
-pub mod Bounds
 pub mod Values
