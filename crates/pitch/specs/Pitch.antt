@@ -1,5 +1,5 @@
 -- The pitch postfilter of one subframe (document 01, "Pitch postfilter"; the Rust's pitch_postfilter; eq. 42 to 47 of G.723.1). The signal x is the excitation history of 146 samples, then the frame's 240; the subframe stands at the place p.
-use Rattle.std.specs.Prelude.{cond, List, ℕ, ◌+◌, ◌*◌, ◌/◌, ◌^◌, ltb, leb, eqb, ℤ, pos, nat_abs, ◌+ℤ◌, ◌*ℤ◌}
+use Rattle.std.specs.Prelude.{cond, Option, Some, None, List, ℕ, ◌+◌, ◌*◌, ◌/◌, ◌^◌, ltb, leb, eqb, ℤ, pos, nat_abs, ◌+ℤ◌, ◌*ℤ◌}
 use Rattle.integers.specs.Base.{floor_div, entry, tabulate}
 use Rattle.tables.specs.Constants.{subframe_size, ltp_gamma_high, ltp_gamma_low, pitch_gate}
 use Rattle.isqrt.specs.Root.{root}
@@ -7,7 +7,6 @@ use Rattle.correlation.specs.Correlation.{energy}
 use Rattle.excitation.specs.declared.Rate.{Rate}
 use Rattle.excitation.specs.declared.Rate.TheVariants.{High, Low}
 use Rattle.lags.specs.Lags.{window, chosen_lag}
-use Rattle.lags.specs.declared.Best.TheVariants.{None, Lag}
 use Rattle.lags.specs.declared.Choice.{Choice}
 
 -- ---- the gain (eq. 46)
@@ -57,10 +56,10 @@ levelled v t =
 -- ---- all of it
 
 -- with the chosen lag, for a subframe of the energy t: unchanged where no lag counts, or where 4 c² is less than d t (eq. 45, 46)
-unfoldable pub applied : List ℤ → Rate → ℕ → ℕ → Choice → List ℤ
-applied x rate p t choice = elim choice.best [
+unfoldable pub applied : List ℤ → Rate → ℕ → ℕ → Option Choice → List ℤ
+applied x rate p t choice = elim choice [
   | None ↦ unchanged x p
-  | Lag m c d ↦ cond (ltb (pitch_gate * (c * c)) (d * t)) (unchanged x p) (levelled (mixed x p (window choice.to p m) (weight rate c d)) t)
+  | Some k ↦ let b = k.best in cond (ltb (pitch_gate * (b.c * b.c)) (b.d * t)) (unchanged x p) (levelled (mixed x p (window k.to p b.lag) (weight rate b.c b.d)) t)
 ]
 
 -- the subframe at p, with a lag already limited; unchanged where its energy (eq. 44.3) is 0

@@ -1,7 +1,7 @@
 // The pitch postfilter of one subframe, under the Rust's name (qdec.rs).
 #![tactic(auto)]
 
-ghost use Rattle.std.specs.Prelude.{◌≡◌, ◌+◌, ◌*◌, ◌^◌, ◌≤◌, ltb, pos, nat_abs, ◌*ℤ◌};
+ghost use Rattle.std.specs.Prelude.{◌≡◌, Some, ◌+◌, ◌*◌, ◌^◌, ◌≤◌, ltb, pos, nat_abs, ◌*ℤ◌};
 ghost use Rattle.integers.specs.Base.{entry, tabulate, Within, AllWithin};
 ghost use Rattle.tables.specs.Constants.{pitch_gate};
 ghost use Rattle.correlation.specs.Correlation.{energy};
@@ -11,7 +11,7 @@ ghost use Rattle.lags.specs.Search.{Small, Inside};
 ghost use Rattle.pitch.specs.Pitch.{gain, gamma, weight, unchanged, mixed_sample, mixed, level, level_sample, levelled, applied, postfiltered};
 
 use excitation::{Rate, Subframe};
-use lags::{Best, Choice};
+use lags::Choice;
 use wide::Wide;
 
 // A subframe as a count of products.
@@ -61,13 +61,7 @@ fn subframe(x: &[i16; 386], p: usize) -> [i32; 60]
     requires { p ≤ 326 }
     ensures { result ≡ unchanged x.now p }
 {
-    let mut v = [0i32; 60];
-    let mut n: usize = 0;
-    while n < tables::SUBFRAME_SIZE {
-        v[n] = x[p + n] as i32;
-        n += 1;
-    }
-    v
+    std::array::from_fn(|n| i32::from(x[p + n]))
 }
 
 fn mixed_sample(w: u32, s: i16, y: i16) -> i32
@@ -75,43 +69,15 @@ fn mixed_sample(w: u32, s: i16, y: i16) -> i32
     ensures value { result ≡ mixed_sample w s y }
     ensures within { Within 40960 result }
 {
-    s as i32 + ((w as i32 * y as i32) >> 15)
+    i32::from(s) + ((w as i32 * i32::from(y)) >> 15)
 }
 
-fn mixed_subframe(x: &[i16; 386], p: usize, q: usize, w: u32) -> [i32; 60]
-    requires p_bound { (p ≤ 326) × (q ≤ 326) }
-    requires w_bound { w ≤ 8192 }
-    ensures value { result ≡ mixed x.now p q w }
-    ensures all_within { AllWithin 40960 result }
+fn square(z: i32) -> u64
+    requires { Within 40960 z }
+    ensures value { result ≡ nat_abs (z *ℤ z) }
+    ensures upper_bound { result ≤ 2 ^ 31 }
 {
-    let mut v = [0i32; 60];
-    let mut n: usize = 0;
-    while n < tables::SUBFRAME_SIZE {
-        v[n] = mixed_sample(w, x[p + n], x[q + n]);
-        n += 1;
-    }
-    v
-}
-
-fn square_sum(e: u64, z: i32) -> u64
-    requires e_bound { e ≤ 60 * 2 ^ 31 }
-    requires within { Within 40960 z }
-    ensures { result ≡ e + nat_abs (z *ℤ z) }
-{
-    e + (z * z) as u64
-}
-
-fn mixed_energy(v: &[i32; 60]) -> u64
-    requires { AllWithin 40960 v.now }
-    ensures { pos result ≡ energy v.now 0 60 }
-{
-    let mut e: u64 = 0;
-    let mut n: usize = 0;
-    while n < tables::SUBFRAME_SIZE {
-        e = square_sum(e, v[n]);
-        n += 1;
-    }
-    e
+    (z * z) as u64
 }
 
 // The root of t/e, in 32768ths.
@@ -129,54 +95,74 @@ fn level_sample(g: u32, z: i32) -> i32
     requires within { Within 40960 z }
     ensures { result ≡ level_sample g z }
 {
-    ((z as i64 * g as i64 + 16384) >> 15) as i32
+    ((i64::from(z) * i64::from(g) + 16384) >> 15) as i32
 }
 
-fn scaled_subframe(v: [i32; 60], g: u32) -> [i32; 60]
-    requires g_bound { g ≤ 32768 }
-    requires all_within { AllWithin 40960 v }
-    ensures { result ≡ tabulate (λ n. level_sample g (entry v n)) 60 }
-{
-    let mut u = v;
-    let mut n: usize = 0;
-    while n < tables::SUBFRAME_SIZE {
-        u[n] = level_sample(g, v[n]);
-        n += 1;
-    }
-    u
+// A subframe with a part of another.
+#[derive(Drop)]
+struct Mixed {
+    samples: [i32; 60],
+    ghost small: { AllWithin 40960 samples },
 }
 
-fn levelled_subframe(v: [i32; 60], t: u64) -> [i32; 60]
-    requires { AllWithin 40960 v }
-    ensures { result ≡ levelled v t }
-{
-    let e = mixed_energy(&v);
-    if e < t {
-        return v;
+impl Mixed {
+    fn new(x: &[i16; 386], p: usize, q: usize, w: u32) -> Mixed
+        requires p_bound { (p ≤ 326) × (q ≤ 326) }
+        requires w_bound { w ≤ 8192 }
+        ensures { result.samples ≡ mixed x.now p q w }
+    {
+        // A loop: of the items of `array::from_fn` the proof knew the values and not their bound.
+        let mut samples = [0i32; 60];
+        for n in 0..tables::SUBFRAME_SIZE {
+            samples[n] = mixed_sample(w, x[p + n], x[q + n]);
+        }
+        Mixed { samples }
     }
-    scaled_subframe(v, level_q15(t, e))
+
+    fn energy(&self) -> u64
+        ensures { pos result ≡ energy self.now.samples 0 60 }
+    {
+        let mut e: u64 = 0;
+        for z in &self.samples {
+            e += square(*z);
+        }
+        e
+    }
+
+    fn scaled(&self, g: u32) -> [i32; 60]
+        requires { g ≤ 32768 }
+        ensures { result ≡ tabulate (λ n. level_sample g (entry self.now.samples n)) 60 }
+    {
+        std::array::from_fn(|n| level_sample(g, self.samples[n]))
+    }
+
+    #[tactic(auto, unfolding(crate::specs::Pitch::levelled))]
+    fn levelled(self, t: u64) -> [i32; 60]
+        ensures { result ≡ levelled self.samples t }
+    {
+        let e = self.energy();
+        if e < t {
+            return self.samples;
+        }
+        self.scaled(level_q15(t, e))
+    }
 }
 
 // With the chosen lag, for a subframe of the energy t.
+#[tactic(auto, unfolding(crate::specs::Pitch::applied))]
 fn applied_choice(x: &[i16; 386], rate: Rate, p: usize, t: u64, k: Choice) -> [i32; 60]
     requires p_bound { p ≤ 326 }
     requires small { Small k.best }
     requires inside { Inside k.to p k.best }
-    ensures { result ≡ applied x.now rate p t k }
+    ensures { result ≡ applied x.now rate p t (Some k) }
 {
-    let to = k.to;
     let best = k.best;
-    match best {
-        Best::None => subframe(x, p),
-        Best::Lag { lag: m, c, d } => {
-            if too_weak(c, d, t) {
-                return subframe(x, p);
-            }
-            let q = lags::window_place(to, p as u16, m as u16);
-            let w = weight_q15(rate, c, d);
-            levelled_subframe(mixed_subframe(x, p, q, w), t)
-        }
+    if too_weak(best.c, best.d, t) {
+        return subframe(x, p);
     }
+    let q = lags::window_place(k.to, p as u16, best.lag as u16);
+    let w = weight_q15(rate, best.c, best.d);
+    Mixed::new(x, p, q, w).levelled(t)
 }
 
 // The subframe as it is.
@@ -187,6 +173,7 @@ pub fn plain_subframe(signal: &[i16; 386], s: Subframe) -> [i32; 60]
 }
 
 // A subframe of the frame's excitation, strengthened by what a pitch lag before or after it is like it.
+#[tactic(auto, unfolding(crate::specs::Pitch::applied, crate::specs::Pitch::postfiltered))]
 pub fn pitch_postfilter(signal: &[i16; 386], s: Subframe, lag: i32, rate: Rate) -> [i32; 60]
     ensures { result ≡ postfiltered signal.now rate (subframe_place s) (limited_lag lag) }
 {
@@ -195,5 +182,8 @@ pub fn pitch_postfilter(signal: &[i16; 386], s: Subframe, lag: i32, rate: Rate) 
     if t == 0 {
         return subframe(signal, p);
     }
-    applied_choice(signal, rate, p, t, lags::chosen_lag(signal, s, lag))
+    match lags::chosen_lag(signal, s, lag) {
+        Some(k) => applied_choice(signal, rate, p, t, k),
+        None => subframe(signal, p),
+    }
 }
