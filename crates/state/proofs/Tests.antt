@@ -50,7 +50,7 @@ module _ (t : ℕ → Bool) where
   all_from (suc n) h = λ i. all_from n (λ j p. h j (omega arith)) i && h n (omega arith) i
 
 -- no more tests
-pub and_true : (b : Bool) → (b && true) ≡ b
+and_true : (b : Bool) → (b && true) ≡ b
 and_true true = refl
 and_true false = refl
 

@@ -65,15 +65,18 @@ fn are_words(xs: &[i32]) -> bool
     xs.iter().all(|x| is_between(-32768, 32767, *x))
 }
 
-// In the order in which they are defined, so that each test is one of the definition's.
+// The least and the most of each, and its value.
 fn numbers_in_bounds(state: State) -> bool
     ensures { result ≡ are_in_bounds (bounded_numbers state) }
 {
-    is_between(0, tables::AGC_GAIN_MAX_Q12, state.pf.agc_gain_q12)
-        && (is_between(tables::LAST_LAG_MIN, tables::LAST_LAG_MAX, state.last_lag)
-            && (is_between(tables::PITCH_MIN, tables::LAST_LAG2_MAX, state.last_lag2)
-                && (is_between(0, tables::TAPS_SUM_MAX_Q15, state.last_taps_sum_q15)
-                    && is_between(0, tables::GAIN_UNVOICED_MAX, state.last_gain_unvoiced))))
+    let numbers = [
+        (0, tables::AGC_GAIN_MAX_Q12, state.pf.agc_gain_q12),
+        (tables::LAST_LAG_MIN, tables::LAST_LAG_MAX, state.last_lag),
+        (tables::PITCH_MIN, tables::LAST_LAG2_MAX, state.last_lag2),
+        (0, tables::TAPS_SUM_MAX_Q15, state.last_taps_sum_q15),
+        (0, tables::GAIN_UNVOICED_MAX, state.last_gain_unvoiced),
+    ];
+    numbers.iter().all(|&(lo, hi, z)| is_between(lo, hi, z))
 }
 
 // Number 2 is not given.
