@@ -6,14 +6,18 @@ use mathlib.Core.Logic.{⊎_elim}
 use Rattle.digits.proofs.Characters.{either}
 use Prim.Native.Nat.{ℕ, suc, ◌+◌, ◌≤◌, ◌<◌}
 use native.Mathlib.Omega.{arith}
-use lib.Dec.{eqb}
+use lib.Dec.{eqb, ltb}
+use lib.Seq.{take_all}
+use borrow.Author.Tests.{ltb-true, ltb-false}
 use lib.ListN.{length, take}
-use Rattle.lines.specs.Parts.{reply_of, line_reply, progress_by, newline_at}
-use Rattle.lines.specs.Stream.{pushed, pushed_all, text_of, end_text, next_line, with_byte, stream_after, answers_from, to_newline, progress_of}
-use Rattle.lines.specs.declared.Line.{Line}
+use Rattle.std.specs.Prelude.{Some, None}
+use Rattle.std.specs.List.{position}
+use Rattle.arrayvec.specs.ArrayVec.{ArrayVec}
+use Rattle.lines.specs.Parts.{line_reply, progress_by, newline_at}
+use Rattle.lines.specs.Stream.{Line, pushed, pushed_all, text_of, end_text, next_line, with_byte, stream_after, answers_from, to_newline, progress_of}
 use Rattle.lines.specs.declared.Stream.{Stream}
-use Rattle.lines.specs.declared.Text.{Text}
 use Rattle.lines.specs.declared.Reply.{Reply}
+use Rattle.lines.proofs.Texts.{reply-progress}
 
 abbrev pub with_line : Stream → Line → Stream
 with_line r l = record { state = r.state; line = l; tallies = r.tallies }
@@ -22,20 +26,11 @@ with_line r l = record { state = r.state; line = l; tallies = r.tallies }
 abbrev pub longer : Stream → List ℕ → Stream
 longer r xs = with_line r (pushed_all r.line (take (newline_at xs) xs))
 
-at_most : (t : Bool) (n m : ℕ) → n ≤ m → cond t 0 (suc n) ≤ suc m
-at_most true n m h = omega arith
-at_most false n m h = omega arith
-
-pub newline_inside : (xs : List ℕ) → newline_at xs ≤ length xs
-unfolding newline_at
-newline_inside [] = omega arith
-newline_inside (b ∷ xs) = at_most (eqb b 10) (newline_at xs) (length xs) (newline_inside xs)
-
 -- ---- the first byte
 
 later : (b : ℕ) (xs : List ℕ) → eqb b 10 ≡ false → newline_at (b ∷ xs) ≡ suc (newline_at xs)
 unfolding newline_at
-later b xs h = rw h
+later b xs h = rw h (omega arith)
 
 here : (b : ℕ) (xs : List ℕ) → eqb b 10 ≡ true → newline_at (b ∷ xs) ≡ 0
 unfolding newline_at
@@ -119,6 +114,28 @@ nowhere : newline_at [] ≡ 0
 unfolding newline_at
 nowhere = refl
 
+newline_inside : (xs : List ℕ) → newline_at xs ≤ length xs
+newline_inside [] = omega (arith, nowhere)
+newline_inside (b ∷ xs) =
+    ⊎_elim (λ (e : eqb b 10 ≡ true). omega (arith, here b xs e)) (λ (e : eqb b 10 ≡ false). omega (arith, later b xs e, newline_inside xs)) (either (eqb b 10))
+
+-- the first newline as `position` answers it
+pub newline_some : (xs : List ℕ) (n : ℕ) → Some n ≡ position (λ b. eqb b 10) xs → (newline_at xs ≡ n) × (newline_at xs < length xs)
+unfolding newline_at
+newline_some xs n e = by (ltb (newline_at xs) (length xs)) refl e
+  where
+    by : (t : Bool) → ltb (newline_at xs) (length xs) ≡ t → Some n ≡ cond t (Some (newline_at xs)) None → (newline_at xs ≡ n) × (newline_at xs < length xs)
+    by true h f = (cc, ltb-true (newline_at xs) (length xs) h)
+    by false h f = absurd (let z : ⊥ = cc in z)
+
+pub newline_none : (xs : List ℕ) → None ≡ position (λ b. eqb b 10) xs → newline_at xs ≡ length xs
+unfolding newline_at
+newline_none xs e = by (ltb (newline_at xs) (length xs)) refl e
+  where
+    by : (t : Bool) → ltb (newline_at xs) (length xs) ≡ t → None ≡ cond t (Some (newline_at xs)) None → newline_at xs ≡ length xs
+    by true h f = absurd (let z : ⊥ = cc in z)
+    by false h f = omega (arith, newline_inside xs, ltb-false (newline_at xs) (length xs) h)
+
 ends : (r : Stream) (xs : List ℕ) → newline_at xs < length xs → Ends r xs
 ends r [] h = absurd (let z : ⊥ = omega (arith, nowhere) in z)
 ends r (b ∷ xs) h =
@@ -133,16 +150,21 @@ goes r (b ∷ xs) h =
 
 -- ---- what `feed` answers
 
-pub progress_ended : (r : Stream) (xs : List ℕ) (a : Reply) → newline_at xs < length xs → a ≡ line_reply (longer r xs).line r.state
-    → progress_by r.tallies a (newline_at xs + 1) ≡ progress_of r xs
-unfolding progress_of next_line end_text reply_of
-progress_ended r xs a h e =
-    let w = ends r xs h in
-    ap (λ (b : Reply). progress_by r.tallies b (newline_at xs + 1)) e ∙ (λ i. record { stream = sym w.carried i; text = text_of (sym w.answers i); used = sym w.used i })
+pub progress_ended : (r : Stream) (xs : List ℕ) (n : ℕ) (a : Reply) → Some n ≡ position (λ b. eqb b 10) xs → a ≡ line_reply (pushed_all r.line (take n xs)) r.state
+    → progress_by r.tallies a (n + 1) ≡ progress_of r xs
+unfolding progress_of next_line end_text
+progress_ended r xs n a h e =
+    let p = newline_some xs n h in
+    let w = ends r xs p.1 in
+    (λ i. progress_by r.tallies ((e ∙ (λ k. line_reply (pushed_all r.line (take (sym p.0 k) xs)) r.state)) i) (sym p.0 i + 1))
+    ∙ reply-progress r.tallies _ _ r.state (newline_at xs + 1)
+    ∙ (λ i. record { stream = sym w.carried i; text = text_of (sym w.answers i); used = sym w.used i })
 
-pub progress_going : (r : Stream) (xs : List ℕ) (m : Stream) (t : Text) → length xs ≤ newline_at xs → m ≡ longer r xs → t ≡ text_of []
-    → record { stream = m; text = t; used = newline_at xs } ≡ progress_of r xs
+pub progress_going : (r : Stream) (xs : List ℕ) (l : Line) (t : ArrayVec ℕ) → None ≡ position (λ b. eqb b 10) xs → l ≡ pushed_all r.line xs → t.items ≡ []
+    → record { stream = with_line r l; text = t; used = length xs } ≡ progress_of r xs
 unfolding progress_of
-progress_going r xs m t h e g =
-    let w = goes r xs h in
-    λ i. record { stream = (e ∙ sym w.carried) i; text = (g ∙ ap text_of (sym w.answers)) i; used = sym w.used i }
+progress_going r xs l t h e g =
+    let p = newline_none xs h in
+    let w = goes r xs (omega (arith, p)) in
+    let all : pushed_all r.line xs ≡ (longer r xs).line = ap (pushed_all r.line) (sym (take_all (newline_at xs) xs (omega (arith, p)))) in
+    λ i. record { stream = (ap (with_line r) (e ∙ all) ∙ sym w.carried) i; text = text_of ((g ∙ sym w.answers) i); used = (sym p ∙ sym w.used) i }

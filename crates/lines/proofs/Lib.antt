@@ -1,4 +1,3 @@
-pub mod Newlines
 pub mod Texts
 pub mod Feeding
 pub mod Cuts

@@ -1,23 +1,24 @@
 -- What is carried from one piece of the input to the next, and what each piece adds to it and to the output: the code's structs.
-use Rattle.std.specs.Prelude.{Bool, true, false, cond, not, ◌&&◌, ◌||◌, List, [], ◌∷◌, ◌++◌, ℕ, ◌+◌, ◌-◌, eqb, ltb, length, take, set, replicate}
+use Rattle.std.specs.Prelude.{Bool, true, false, cond, List, [], ◌∷◌, ◌++◌, ℕ, eqb, ltb, length, replicate, Option, Some, None}
 use Rattle.tables.specs.Constants.{line_max, numbers_counted}
-use Rattle.digits.specs.Digits.{has_pairs, bytes_of, sample_line_bytes}
+use Rattle.digits.specs.Digits.{has_pairs, bytes_of}
 use Rattle.counts.specs.Counts.{counted}
 use Rattle.state.specs.State.{fresh_state}
 use Rattle.lines.specs.Replies.{number_for, state_for, text_for}
-use Rattle.lines.specs.declared.Line.{Line}
+use Rattle.arrayvec.specs.ArrayVec.{ArrayVec}
 use Rattle.lines.specs.declared.Stream.{Stream}
-use Rattle.lines.specs.declared.Text.{Text}
 use Rattle.lines.specs.declared.Progress.{Progress}
 
 -- ---- a line that has not ended
 
+-- its characters, or None where there are more than 1,098
+abbrev pub Line : Type 0
+Line = Option (ArrayVec ℕ)
+
 -- one character more: it is kept where there is room for it
 unfoldable pub pushed : Line → ℕ → Line
-pushed l b =
-    cond (ltb l.len line_max)
-    (record { text = set l.text l.len b; len = l.len + 1; over = l.over })
-    (record { text = l.text; len = l.len; over = true })
+pushed None b = None
+pushed (Some t) b = cond (ltb (length t.items) line_max) (Some (record { items = t.items ++ (b ∷ []) })) None
 
 -- the characters xs more
 unfoldable pub pushed_all : Line → List ℕ → Line
@@ -26,19 +27,22 @@ pushed_all l (b ∷ xs) = pushed_all (pushed l b) xs
 
 -- none of it yet
 abbrev pub blank : Line
-blank = record { text = replicate line_max 0; len = 0; over = false }
+blank = Some (record { items = [] })
 
 -- its characters
 abbrev pub characters : Line → List ℕ
-characters l = take l.len l.text
+characters None = []
+characters (Some t) = t.items
 
 -- it is a record: digit pairs, and not too long
 abbrev pub is_record : Line → Bool
-is_record l = not l.over && has_pairs (characters l)
+is_record None = false
+is_record (Some t) = has_pairs t.items
 
 -- there is something of it
 abbrev pub is_begun : Line → Bool
-is_begun l = ltb 0 l.len || l.over
+is_begun None = true
+is_begun (Some t) = ltb 0 (length t.items)
 
 -- ---- from piece to piece
 
@@ -80,9 +84,9 @@ answers_from r (b ∷ xs) = cond (eqb b 10) (end_text r) [] ++ answers_from (wit
 
 -- ---- what the functions answer
 
--- text at the start of its bytes, which have room for the longest answer, a line of samples, and are zeros after it
-abbrev pub text_of : List ℕ → Text
-text_of l = record { bytes = l ++ replicate (sample_line_bytes - length l) 0; len = length l }
+-- a text that is to be written
+abbrev pub text_of : List ℕ → ArrayVec ℕ
+text_of l = record { items = l }
 
 -- a piece of the input to its first newline, with it
 unfoldable pub to_newline : List ℕ → List ℕ

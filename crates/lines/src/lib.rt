@@ -1,178 +1,138 @@
 // Lines of hexadecimal text to lines of samples, piece by piece: the program `frames` but for its calls to read and write.
 #![tactic(auto)]
 
-ghost use Rattle.std.specs.Prelude.{◌≡◌, true, false, ◌||◌, ltb, [], take};
-ghost use Rattle.digits.specs.Digits.{sample_line};
-ghost use Rattle.lines.specs.Replies.{refusal_line};
-ghost use Rattle.lines.specs.Stream.{pushed_all, blank, fresh_stream, text_of, progress_of, finished};
-ghost use Rattle.lines.specs.Parts.{answer_line, reply_of, line_reply, text_reply, progress_by, newline_at};
+ghost use Rattle.std.specs.Prelude.{◌≡◌, ◌==◌, true};
+ghost use Rattle.std.specs.List.{position};
+ghost use Rattle.lines.specs.Stream.{pushed_all, blank, is_begun, fresh_stream, text_of, progress_of, finished};
+ghost use Rattle.lines.specs.Parts.{refusal_number, answer_number, answer_line, answered, reply_of, line_reply, text_reply, progress_by};
 
+use arrayvec::ArrayVec;
+use numbers::Refusal;
 use state::State;
+use verdict::Verdict;
 
-// A line that has not ended: `len` characters stand in `text`, and `over` is set where there were more.
-#[derive(Clone, Copy)]
-pub struct Line {
-    pub text: [u8; 1098],
-    pub len: usize,
-    pub over: bool,
-}
+// The characters of a line that has not ended, or None where there are more of them than a record's line may have.
+pub type Line = Option<ArrayVec<u8, 1098>>;
 
 // What is carried from one piece of the input to the next. `tallies` counts lines by number, those with samples at 0.
-#[derive(Clone, Copy)]
+#[derive(Drop)]
 pub struct Stream {
     pub state: State,
     pub line: Line,
     pub tallies: [u64; 12],
 }
 
-// The answer to a line, with its newline: `len` bytes.
-#[derive(Clone, Copy)]
-pub struct Text {
-    pub bytes: [u8; 961],
-    pub len: usize,
-}
-
-// What a call took of a piece, and what is to be written.
-#[derive(Clone, Copy)]
+// What a call took of a piece, and what is to be written: the answer to a line that ended, with its newline, or nothing.
+#[derive(Drop)]
 pub struct Progress {
     pub stream: Stream,
-    pub text: Text,
+    pub text: ArrayVec<u8, 961>,
     pub used: usize,
 }
 
-// The answer to one line.
+// Why a line has no samples: the decoder refuses its record, or it is none.
+#[derive(Clone, Copy)]
+enum LineRefusal {
+    Record(Refusal),
+    NoRecord,
+}
+
+// The answer to one line, and the state after it.
 #[derive(Clone, Copy)]
 struct Reply {
     state: State,
-    number: u8,
-    text: Text,
+    answer: Result<[i16; 240], LineRefusal>,
 }
 
-fn no_text() -> Text
-    ensures { result ≡ text_of [] }
-{
-    Text {
-        bytes: [0u8; 961],
-        len: 0,
+impl From<LineRefusal> for u8 {
+    ghost from_gives = { λ refusal number. number ≡ refusal_number refusal };
+
+    // Document 01's number; 11 where the line is no record.
+    fn from(refusal: LineRefusal) -> u8 {
+        match refusal {
+            LineRefusal::Record(r) => numbers::refusal_number(r),
+            LineRefusal::NoRecord => 11,
+        }
     }
 }
 
 fn blank_line() -> Line
     ensures { result ≡ blank }
 {
-    Line {
-        text: [0u8; 1098],
-        len: 0,
-        over: false,
-    }
+    Some(ArrayVec::new())
 }
 
-fn refusal_text(n: u8) -> Text
-    ensures { result ≡ text_of (refusal_line n) }
+// Whether there is anything of the line.
+fn is_begun(line: &Line) -> bool
+    ensures { result ≡ is_begun line.now }
 {
-    let mut bytes = [0u8; 961];
-    bytes[0] = 82;
-    bytes[1] = 48 + n / 10;
-    bytes[2] = 48 + n % 10;
-    bytes[3] = 10;
-    Text {
-        bytes: bytes,
-        len: 4,
+    match line {
+        Some(text) => !text.is_empty(),
+        None => true,
     }
 }
 
-fn sample_text(samples: [i16; 240]) -> Text
-    ensures { result ≡ text_of (sample_line samples) }
-{
-    let bytes = digits::sample_line(samples);
-    Text {
-        bytes: bytes,
-        len: digits::SAMPLE_LINE_BYTES,
-    }
-}
-
-// The place of the first newline, or the length.
-fn newline(input: &[u8]) -> usize
-    ensures { result ≡ newline_at input.now }
-{
-    let mut i: usize = 0;
-    while i < input.len() {
-        if input[i] == 10 {
-            return i;
-        }
-        i += 1;
-    }
-    i
-}
-
+// The line with the characters `part` more.
 fn append(line: Line, part: &[u8]) -> Line
     ensures { result ≡ pushed_all line part.now }
 {
-    let mut text = line.text;
-    let mut len = line.len;
-    let mut over = line.over;
-    let mut i: usize = 0;
-    while i < part.len() {
-        if len < tables::LINE_MAX {
-            text[len] = part[i];
-            len += 1;
-        } else {
-            over = true;
-        }
-        i += 1;
+    let mut text = line?;
+    if text.remaining_capacity() < part.len() {
+        return None;
     }
-    Line {
-        text: text,
-        len: len,
-        over: over,
-    }
+    let _fits = text.try_extend_from_slice(part);
+    Some(text)
 }
 
-fn answer_text(n: u8, samples: [i16; 240]) -> Text
-    ensures { result ≡ text_of (answer_line n samples) }
+// The place of the first newline.
+fn newline(input: &[u8]) -> Option<usize>
+    ensures { result ≡ position (λ b. b == 10) input.now }
 {
-    if n == 0 {
-        return sample_text(samples);
-    }
-    refusal_text(n)
+    input.iter().position(|b| *b == b'\n')
 }
 
-// The answer to a record.
+// 0 for samples.
+fn answer_number(answer: &Result<[i16; 240], LineRefusal>) -> u8
+    ensures { result ≡ answer_number answer.now }
+{
+    match answer {
+        Ok(_) => 0,
+        Err(refusal) => u8::from(*refusal),
+    }
+}
+
+fn answer_text(answer: Result<[i16; 240], LineRefusal>) -> ArrayVec<u8, 961>
+    ensures { result ≡ text_of (answer_line answer) }
+{
+    match answer {
+        Ok(samples) => ArrayVec::from(digits::sample_line(samples)),
+        Err(refusal) => {
+            let n = u8::from(refusal);
+            let mut text = ArrayVec::new();
+            let _fits = text.try_extend_from_slice(&[b'R', b'0' + n / 10, b'0' + n % 10, b'\n']);
+            text
+        }
+    }
+}
+
+// The answer to a record, by what the decoder says of it.
+fn answered(verdict: Verdict, samples: [i16; 240]) -> Result<[i16; 240], LineRefusal>
+    ensures { result ≡ answered verdict samples }
+{
+    match verdict {
+        Verdict::Accepted(_) => Ok(samples),
+        Verdict::Refused(r) => Err(LineRefusal::Record(r)),
+    }
+}
+
 fn decoded(given: State, bytes: &[u8]) -> Reply
     ensures { result ≡ reply_of true bytes.now given }
 {
-    let mut samples = [0i16; 240];
+    let mut samples = [0; 240];
     let a = decoder::decode(given, bytes, &mut samples);
-    let v = a.verdict;
-    let state = a.state;
-    let n = verdict::verdict_number(v);
-    let text = answer_text(n, samples);
     Reply {
-        state: state,
-        number: n,
-        text: text,
-    }
-}
-
-// The answer to the first `count` bytes as a record.
-fn record_reply(given: State, bytes: &[u8], count: usize) -> Reply
-    ensures { result ≡ reply_of true (take count bytes.now) given }
-{
-    if count < bytes.len() {
-        return decoded(given, &bytes[..count]);
-    }
-    decoded(given, bytes)
-}
-
-// The answer to a line that is no record: number 11, which changes no state.
-fn no_record(given: State) -> Reply
-    ensures { result ≡ reply_of false [] given }
-{
-    let text = refusal_text(11);
-    Reply {
-        state: given,
-        number: 11,
-        text: text,
+        state: a.state,
+        answer: answered(a.verdict, samples),
     }
 }
 
@@ -180,69 +140,50 @@ fn no_record(given: State) -> Reply
 fn text_reply(given: State, text: &[u8]) -> Reply
     ensures { result ≡ text_reply text.now given }
 {
-    let p = digits::digit_pairs(text);
-    if !p.are_pairs {
-        return no_record(given);
+    match digits::digit_pairs(text) {
+        Some(bytes) => decoded(given, &bytes),
+        None => Reply {
+            state: given,
+            answer: Err(LineRefusal::NoRecord),
+        },
     }
-    let bytes = p.bytes;
-    record_reply(given, &bytes, p.count)
-}
-
-// The answer to its first `len` characters as a line.
-fn front_reply(given: State, text: &[u8], len: usize) -> Reply
-    ensures { result ≡ text_reply (take len text.now) given }
-{
-    if len < text.len() {
-        return text_reply(given, &text[..len]);
-    }
-    text_reply(given, text)
-}
-
-// The answer to a line as it is kept.
-fn line_reply(given: State, line: Line) -> Reply
-    ensures { result ≡ line_reply line given }
-{
-    if line.over {
-        return no_record(given);
-    }
-    let text = line.text;
-    front_reply(given, &text, line.len)
-}
-
-fn is_begun(len: usize, over: bool) -> bool
-    ensures { result ≡ (ltb 0 len || over) }
-{
-    if len > 0 {
-        return true;
-    }
-    over
 }
 
 // The answer to a line with the characters `part` more. A line that stands whole in a piece is read there.
 fn part_reply(given: State, line: Line, part: &[u8]) -> Reply
     ensures { result ≡ line_reply (pushed_all line part.now) given }
 {
-    if is_begun(line.len, line.over) {
-        let longer = append(line, part);
-        return line_reply(given, longer);
+    if is_begun(&line) {
+        return line_reply(given, append(line, part));
     }
     text_reply(given, part)
 }
 
-// What is carried on after an answer: its state, a new line, and its number counted.
-fn progress_by(tallies: [u64; 12], a: Reply, used: usize) -> Progress
-    ensures { result ≡ progress_by tallies a used }
+// The answer to a line as it is kept.
+fn line_reply(given: State, line: Line) -> Reply
+    ensures { result ≡ line_reply line given }
 {
-    let state = a.state;
-    let text = a.text;
+    match line {
+        Some(text) => text_reply(given, &text),
+        None => Reply {
+            state: given,
+            answer: Err(LineRefusal::NoRecord),
+        },
+    }
+}
+
+// What is carried on after an answer: its state, a new line, and its number counted.
+fn progress_by(tallies: [u64; 12], reply: Reply, used: usize) -> Progress
+    ensures { result ≡ progress_by tallies reply used }
+{
     Progress {
         stream: Stream {
-            state: state,
+            state: reply.state,
             line: blank_line(),
-            tallies: counts::count(tallies, a.number),
+            tallies: counts::count(tallies, answer_number(&reply.answer)),
         },
-        text: text,
-        used: used,
+        text: answer_text(reply.answer),
+        used,
     }
 }
 
@@ -261,23 +202,22 @@ pub fn start() -> Stream
 pub fn feed(given: Stream, input: &[u8]) -> Progress
     ensures { result ≡ progress_of given input.now }
 {
-    let state = given.state;
-    let line = given.line;
-    let tallies = given.tallies;
-    let end = newline(input);
-    if end < input.len() {
-        let a = part_reply(state, line, &input[..end]);
-        return progress_by(tallies, a, end + 1);
-    }
-    let longer = append(line, input);
-    Progress {
-        stream: Stream {
-            state: state,
-            line: longer,
-            tallies: tallies,
+    let Stream {
+        state,
+        line,
+        tallies,
+    } = given;
+    match newline(input) {
+        Some(end) => progress_by(tallies, part_reply(state, line, &input[..end]), end + 1),
+        None => Progress {
+            stream: Stream {
+                state,
+                line: append(line, input),
+                tallies,
+            },
+            text: ArrayVec::new(),
+            used: input.len(),
         },
-        text: no_text(),
-        used: end,
     }
 }
 
@@ -285,16 +225,12 @@ pub fn feed(given: Stream, input: &[u8]) -> Progress
 pub fn finish(given: Stream) -> Progress
     ensures { result ≡ finished given }
 {
-    let last = given.line;
-    if is_begun(last.len, last.over) {
-        let state = given.state;
-        let tallies = given.tallies;
-        let a = line_reply(state, last);
-        return progress_by(tallies, a, 0);
+    if is_begun(&given.line) {
+        return progress_by(given.tallies, line_reply(given.state, given.line), 0);
     }
     Progress {
         stream: given,
-        text: no_text(),
+        text: ArrayVec::new(),
         used: 0,
     }
 }

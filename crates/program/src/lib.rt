@@ -3,92 +3,56 @@
 // read or written, and the program ends as it would otherwise.
 #![tactic(auto)]
 
-ghost use Rattle.std.specs.Prelude.{◌≡◌, true, List, ℕ};
+ghost use Rattle.std.specs.Prelude.{◌≡◌, List, ℕ, IfOk};
 ghost use Rattle.lines.specs.Stream.{stream_after, finished, printed_tallies};
 
 use lines::Stream;
 use std::io::{Input, Read};
 
-// What is carried on, whether every write was done, and whether there may be more to read.
+// A write to standard output failed.
 #[derive(Clone, Copy)]
-struct Turn {
-    stream: Stream,
-    is_written: bool,
-    more: bool,
-}
+struct WriteFailed;
 
 // Standard output.
 const STDOUT: i32 = 1;
 
-// The first `len` bytes.
-fn write(bytes: &[u8], len: usize) -> bool {
-    if len < bytes.len() {
-        return io::write_all(STDOUT, &bytes[..len]);
+fn write(bytes: &[u8]) -> Result<(), WriteFailed> {
+    if io::write_all(STDOUT, bytes) {
+        Ok(())
+    } else {
+        Err(WriteFailed)
     }
-    io::write_all(STDOUT, bytes)
 }
 
-// All that a piece of the input adds, by one call of `feed` after the other. What is carried is what some bytes leave, even
-// where a write failed.
-fn piece(given: Stream, input: &[u8]) -> Turn
-    ensures stream_value { result.is_written ≡ true → result.stream ≡ stream_after given input.now }
-    ensures by_index { (xs : List ℕ) × (result.stream ≡ stream_after given xs) }
+// All that a piece of the input adds, by one call of `feed` after the other.
+fn piece(given: Stream, input: &[u8]) -> Result<Stream, WriteFailed>
+    ensures { IfOk result (λ s. s ≡ stream_after given input.now) }
 {
     let mut stream = given;
-    let mut at: usize = 0;
-    while at < input.len() {
-        let f = lines::feed(stream, &input[at..]);
-        let text = f.text;
-        let bytes = text.bytes;
+    let mut rest = input;
+    while rest.len() > 0 {
+        let f = lines::feed(stream, rest);
+        write(&f.text)?;
         stream = f.stream;
-        if !write(&bytes, text.len) {
-            return Turn {
-                stream: stream,
-                is_written: false,
-                more: false,
-            };
-        }
-        at += f.used;
+        rest = &rest[f.used..];
     }
-    Turn {
-        stream: stream,
-        is_written: true,
-        more: true,
-    }
+    Ok(stream)
 }
 
-fn read_piece<R: Read>(reader: &mut R, given: Stream) -> Turn
-    ensures { (xs : List ℕ) × (result.stream ≡ stream_after given xs) }
+// Reads to the end of the input. A proved loop has to end, so it has a number of turns that no run uses up; that the end of the
+// input is seen is tested (tests/check-program).
+fn read_all<R: Read>(reader: &mut R, given: Stream) -> Result<Stream, WriteFailed>
+    ensures { IfOk result (λ s. (input : List ℕ) × (s ≡ stream_after given input)) }
 {
     let mut buf = io::large_buffer();
-    match reader.read(&mut buf) {
-        Ok(n) if n > 0 => piece(given, &buf[..n]),
-        _ => Turn {
-            stream: given,
-            is_written: true,
-            more: false,
-        },
+    let mut stream = given;
+    for _ in 0..u64::MAX {
+        match reader.read(&mut buf) {
+            Ok(n) if n > 0 => stream = piece(stream, &buf[..n])?,
+            _ => break,
+        }
     }
-}
-
-// Reads to the end of the input. A proved loop has to end, so it counts its turns down from a number that no run uses up; that
-// the end of the input is seen is tested (tests/check-program).
-fn read_all<R: Read>(reader: &mut R, given: Stream) -> Turn
-    ensures { (input : List ℕ) × (result.stream ≡ stream_after given input) }
-{
-    let mut now = Turn {
-        stream: given,
-        is_written: true,
-        more: true,
-    };
-    let mut turns = u64::MAX;
-    while turns > 0 && now.more {
-        let stream = now.stream;
-        let next = read_piece(reader, stream);
-        now = next;
-        turns -= 1;
-    }
-    now
+    Ok(stream)
 }
 
 // The line that no newline ended, then the closing lines. It answers the tallies that they are made of.
@@ -96,14 +60,9 @@ fn close(given: Stream) -> [u64; 12]
     ensures { result ≡ (finished given).stream.tallies }
 {
     let f = lines::finish(given);
-    let text = f.text;
-    let bytes = text.bytes;
-    let stream = f.stream;
-    let tallies = stream.tallies;
-    if write(&bytes, text.len) {
-        let c = counts::closing_lines(tallies);
-        let closing = c.bytes;
-        write(&closing, c.len);
+    let tallies = f.stream.tallies;
+    if write(&f.text).is_ok() {
+        let _ = write(&counts::closing_lines(tallies));
     }
     tallies
 }
@@ -113,12 +72,8 @@ fn close(given: Stream) -> [u64; 12]
 pub fn frames(rt: &impl Input) -> [u64; 12]
     ensures { (input : List ℕ) × (result ≡ printed_tallies input) }
 {
-    let start = lines::start();
-    let mut reader = rt.reader();
-    let t = read_all(&mut reader, start);
-    if !t.is_written {
-        return counts::no_tallies();
+    match read_all(&mut rt.reader(), lines::start()) {
+        Ok(stream) => close(stream),
+        Err(_) => counts::no_tallies(),
     }
-    let last = t.stream;
-    close(last)
 }

@@ -5,9 +5,7 @@ use mathlib.Core.List.{List, [], ◌∷◌, ◌++◌, append_assoc}
 use Prim.Native.Nat.{ℕ, zero, suc, ◌-◌, ◌≤◌}
 use native.Mathlib.Omega.{arith}
 use lib.Dec.{eqb}
-use lib.ListN.{length, take, drop, replicate, length-drop}
-use lib.Seq.{take-append_seam}
-use Rattle.digits.specs.Digits.{sample_line_bytes}
+use lib.ListN.{length, drop, length-drop}
 use Rattle.lines.specs.Stream.{end_text, with_byte, stream_after, answers_from, to_newline, progress_of}
 use Rattle.lines.specs.declared.Stream.{Stream}
 use Rattle.lines.proofs.Cuts.{after_cut, nothing-carried, piece_rest, piece_some}
@@ -29,16 +27,13 @@ no_answer r (b ∷ xs) h = absurd (let z : ⊥ = omega arith in z)
 
 -- ---- one piece, call by call
 
-pub text-back : (l : List ℕ) → take (length l) (l ++ replicate (sample_line_bytes - length l) 0) ≡ l
-text-back l = take-append_seam l (replicate (sample_line_bytes - length l) 0)
-
 left : (n : ℕ) (xs : List ℕ) → length xs ≤ suc n → length (drop (length (to_newline xs)) xs) ≤ n
 left n xs h = omega (arith, length-drop (length (to_newline xs)) xs, piece_some xs)
 
 -- one call, then the others
 call_text : (n : ℕ) (r : Stream) (xs : List ℕ) → let p = to_newline xs in piece_text (suc n) r xs ≡ answers_from r p ++ piece_text n (stream_after r p) (drop (length p) xs)
 unfolding piece_text progress_of
-call_text n r xs = let p = to_newline xs in ap (λ (l : List ℕ). l ++ piece_text n (stream_after r p) (drop (length p) xs)) (text-back (answers_from r p))
+call_text n r xs = refl
 
 call_stream : (n : ℕ) (r : Stream) (xs : List ℕ) → let p = to_newline xs in piece_stream (suc n) r xs ≡ piece_stream n (stream_after r p) (drop (length p) xs)
 unfolding piece_stream progress_of

@@ -12,55 +12,40 @@ use Rattle.integers.specs.Natural.{le-or-lt}
 use Rattle.tables.specs.Constants.{line_max, numbers_counted}
 use Rattle.digits.specs.Digits.{bytes_of}
 use Rattle.counts.specs.Counts.{most, counted, Closes, tally, closing}
-use Rattle.counts.proofs.Text.{text-written}
 use Rattle.counts.proofs.Ascending.{ascending_lines}
 use Rattle.state.specs.State.{fresh_state}
 use Rattle.state.specs.declared.State.{State}
 use Rattle.lines.specs.Replies.{is_record_line, line_number, line_state, line_text}
 use Rattle.whole.specs.Output.{lines_from, lines_of, text_from, numbers_from, answers_to, count_of, printed_count}
-use Rattle.lines.specs.Stream.{pushed, blank, characters, is_record, is_begun, text_of, fresh_stream, end_number, end_text, next_line, stream_after, answers_from, ended_of, finished}
-use Rattle.lines.specs.Parts.{reply_of}
+use Rattle.lines.specs.Stream.{Line, pushed, blank, is_begun, text_of, fresh_stream, end_number, end_text, next_line, stream_after, answers_from, ended_of, finished}
+use Rattle.lines.specs.Parts.{answer_number, answer_line, line_reply, text_reply}
 use Rattle.whole.specs.Whole.{written, written_counts, pieces_text, joined, last_progress, OutputOfPieces, PrintedCounts, WholeOutput, OutputAscends}
-use Rattle.lines.specs.declared.Line.{Line}
 use Rattle.lines.specs.declared.Stream.{Stream}
 use Rattle.lines.specs.declared.Progress.{Progress}
 use Rattle.digits.proofs.Characters.{either}
 use Rattle.lines.proofs.Feeding.{with_line, byte-ends, byte-pushed}
 use Rattle.lines.proofs.Cuts.{nothing-carried}
-use Rattle.lines.proofs.Texts.{finish_begun, finish_none, begun_some_of, begun_by-over}
-use Rattle.lines.proofs.Kept.{Kept, kept-none, kept-pushed, kept_reply}
-use Rattle.whole.proofs.Pieces.{no_answer, text-back, pieces_text_lem, pieces_stream_lem}
+use Rattle.lines.proofs.Texts.{reply-state, reply-number, reply-text, finish_begun, finish_none}
+use Rattle.lines.proofs.Kept.{kept, kept-pushed, kept_reply, kept_begun}
+use Rattle.whole.proofs.Pieces.{no_answer, pieces_text_lem, pieces_stream_lem}
 use Rattle.whole.proofs.Tallied.{counted_all, none_above, tallied}
-
--- ---- a line that is kept, at its start and at the end of the input
-
-kept-blank : Kept blank []
-kept-blank = kept-none blank (length-replicate {A = ℕ} line_max 0) refl refl
-
-kept_begun : (k : Line) (line : List ℕ) → Kept k line → is_begun k ≡ ltb 0 (length line)
-kept_begun k line h =
-    let n = length-take line_max line in
-    ⊎_elim (λ (l : length line ≤ 0). sym (begun_by-over k.len k.over (omega (arith, h.count, n))) ∙ h.over ∙ le-ltb line_max (length line) (omega arith) ∙ sym (le-ltb 0 (length line) l))
-    (λ (l : 0 < length line). begun_some_of k.len k.over (omega (arith, h.count, n)) ∙ sym (lt-ltb 0 (length line) l))
-    (le-or-lt (length line) 0)
 
 -- ---- a line's end, where r keeps the characters of the line
 
-module _ (r : Stream) (line : List ℕ) (k : Kept r.line line) where
-  same : reply_of (is_record r.line) (bytes_of (characters r.line)) r.state ≡ reply_of (is_record_line line) (bytes_of line) r.state
-  same = kept_reply r.line line r.state k
+module _ (r : Stream) (line : List ℕ) (k : r.line ≡ kept line) where
+  same : line_reply r.line r.state ≡ text_reply line r.state
+  same = ap (λ (l : Line). line_reply l r.state) k ∙ kept_reply line r.state
 
   pub number_same : end_number r ≡ line_number r.state line
-  unfolding reply_of
-  number_same = λ i. (same i).number
+  number_same = sym (reply-number _ _ r.state) ∙ (λ i. answer_number (same i).answer) ∙ reply-number _ _ r.state
 
   pub state-same : (next_line r).state ≡ line_state r.state line
-  unfolding reply_of next_line
-  state-same = λ i. (same i).state
+  unfolding next_line
+  state-same = sym (reply-state _ _ r.state) ∙ (λ i. (same i).state) ∙ reply-state _ _ r.state
 
   pub text_same : end_text r ≡ line_text r.state line
-  unfolding reply_of end_text
-  text_same = sym (text-back (end_text r)) ∙ (λ i. take (same i).text.len (same i).text.bytes) ∙ text-back (line_text r.state line)
+  unfolding end_text
+  text_same = sym (reply-text _ _ r.state) ∙ (λ i. answer_line (same i).answer) ∙ reply-text _ _ r.state
 
 -- ---- the definitions, one line or one byte on
 
@@ -126,7 +111,7 @@ next-line r = refl
 
 ended-text : (r : Stream) → written (ended_of r) ≡ end_text r
 unfolding ended_of
-ended-text r = text-back (end_text r)
+ended-text r = refl
 
 ended-tallies : (r : Stream) → (ended_of r).stream.tallies ≡ counted r.tallies (end_number r)
 unfolding ended_of
@@ -139,9 +124,9 @@ record Comes (r : Stream) (line xs : List ℕ) : Type 0 where
   tallies : (finished (stream_after r xs)).stream.tallies ≡ counted_of r.tallies r.state (lines_from line xs)
 
 -- none: the line is answered if there is anything of it
-comes_some : (r : Stream) (line : List ℕ) → Kept r.line line → 0 < length line → Comes r line []
+comes_some : (r : Stream) (line : List ℕ) → r.line ≡ kept line → 0 < length line → Comes r line []
 comes_some r line k h =
-    let b : is_begun r.line ≡ true = kept_begun r.line line k ∙ lt-ltb 0 (length line) h in
+    let b : is_begun r.line ≡ true = ap is_begun k ∙ kept_begun line ∙ lt-ltb 0 (length line) h in
     let f : finished (stream_after r []) ≡ ended_of r = ap finished (nothing-carried r [] (omega arith)) ∙ sym (finish_begun r (ended_of r) b refl) in
     let s = r.state in
     record {
@@ -154,16 +139,16 @@ comes_some r line k h =
           ∙ ap (counted_of r.tallies s) (sym (lines_last line h));
     }
 
-comes-none : (r : Stream) (line : List ℕ) → Kept r.line line → length line ≤ 0 → Comes r line []
+comes-none : (r : Stream) (line : List ℕ) → r.line ≡ kept line → length line ≤ 0 → Comes r line []
 comes-none r line k h =
-    let b : is_begun r.line ≡ false = kept_begun r.line line k ∙ le-ltb 0 (length line) h in
+    let b : is_begun r.line ≡ false = ap is_begun k ∙ kept_begun line ∙ le-ltb 0 (length line) h in
     let f = ap finished (nothing-carried r [] (omega arith)) ∙ sym (finish_none r (text_of []) b refl) in
     record {
       text = (λ i. no_answer r [] (omega arith) i ++ written (f i)) ∙ sym (no_answers r.state) ∙ ap (text_from r.state) (sym (lines_none line h));
       tallies = ap (λ (d : Progress). d.stream.tallies) f ∙ sym (none-counted r.tallies r.state) ∙ ap (counted_of r.tallies r.state) (sym (lines_none line h));
     }
 
-comes_end : (r : Stream) (line : List ℕ) (b : ℕ) (xs : List ℕ) → Kept r.line line → eqb b 10 ≡ true → Comes (next_line r) [] xs → Comes r line (b ∷ xs)
+comes_end : (r : Stream) (line : List ℕ) (b : ℕ) (xs : List ℕ) → r.line ≡ kept line → eqb b 10 ≡ true → Comes (next_line r) [] xs → Comes r line (b ∷ xs)
 comes_end r line b xs k h c =
     let s = r.state in
     let n = next_line r in
@@ -186,21 +171,21 @@ comes_char r line b xs h c = record {
 }
 
 -- the next line is kept too
-kept_next : (r : Stream) → Kept (next_line r).line []
-kept_next r = subst (λ (l : Line). Kept l []) (sym (next-line r)) kept-blank
+kept_next : (r : Stream) → (next_line r).line ≡ kept []
+kept_next r = next-line r
 
-comes : (xs : List ℕ) (r : Stream) (line : List ℕ) → Kept r.line line → Comes r line xs
+comes : (xs : List ℕ) (r : Stream) (line : List ℕ) → r.line ≡ kept line → Comes r line xs
 comes [] r line k = ⊎_elim (λ (h : length line ≤ 0). comes-none r line k h) (λ (h : 0 < length line). comes_some r line k h) (le-or-lt (length line) 0)
 comes (b ∷ xs) r line k =
     ⊎_elim (λ (h : eqb b 10 ≡ true). comes_end r line b xs k h (comes xs (next_line r) [] (kept_next r)))
-    (λ (h : eqb b 10 ≡ false). comes_char r line b xs h (comes xs (with_line r (pushed r.line b)) (line ++ (b ∷ [])) (kept-pushed r.line line b k)))
+    (λ (h : eqb b 10 ≡ false). comes_char r line b xs h (comes xs (with_line r (pushed r.line b)) (line ++ (b ∷ [])) (ap (λ (l : Line). pushed l b) k ∙ kept-pushed line b)))
     (either (eqb b 10))
 
 -- ---- from the start
 
-kept_fresh : Kept fresh_stream.line []
+kept_fresh : fresh_stream.line ≡ kept []
 unfolding fresh_stream
-kept_fresh = kept-blank
+kept_fresh = refl
 
 fresh_tallies : fresh_stream.tallies ≡ replicate numbers_counted 0
 unfolding fresh_stream
@@ -250,7 +235,7 @@ whole-output ps =
     (λ i. pieces_text_lem fresh_stream ps i ++ written (last i)) ∙ (whole input).text ∙ ap (λ (q : State). text_from q (lines_of input)) fresh_state_lem in
     let counts : (n : ℕ) → tally tallies n ≡ printed_count input n = λ n. ap (λ (d : Progress). tally d.stream.tallies n) last ∙ printed_counts input n in
     sym (append_assoc (pieces_text fresh_stream ps) (written (last_progress ps)) (written_counts tallies))
-    ∙ (λ i. answers i ++ (text-written (closing (tally tallies)) ∙ ap closing (λ j n. counts n j)) i)
+    ∙ (λ i. answers i ++ closing (λ n. counts n i))
 
 pub output-ascends : OutputAscends
 output-ascends input = (closing (printed_count input), refl, ascending_lines (printed_count input) (λ n h. omega (arith, none_above (lines_of input) (fresh_state true) n h)))

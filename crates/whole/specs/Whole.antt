@@ -1,6 +1,6 @@
 -- The program's calls, piece by piece, give the whole output (document 01, "Program `frames`"), however the input is cut into pieces; the tallies that it answers are the counts; and these come in ascending number. proofs/Whole.antt proves all three, proofs/Values.antt the short case.
-use Rattle.std.specs.Prelude.{List, [], ◌∷◌, ◌++◌, ◌≡◌, ℕ, zero, suc, min, length, take, drop, get_or}
-use Rattle.counts.specs.Counts.{most, Closes, tally, closing, closing_text}
+use Rattle.std.specs.Prelude.{List, [], ◌∷◌, ◌++◌, ◌≡◌, ℕ, zero, suc, min, length, drop, get_or}
+use Rattle.counts.specs.Counts.{most, Closes, tally, closing}
 use Rattle.counts.specs.Ascending.{AscendingLines}
 use Rattle.whole.specs.Output.{answers_to, count_of, IsOutput, printed_count, output}
 use Rattle.lines.specs.Stream.{fresh_stream, progress_of, finished, printed_tallies}
@@ -9,7 +9,7 @@ use Rattle.lines.specs.declared.Progress.{Progress}
 
 -- what a call leaves to be written
 abbrev pub written : Progress → List ℕ
-written f = take f.text.len f.text.bytes
+written f = f.text.items
 
 -- n calls of `feed`, each for what the one before left of the piece: what is written, and what is carried
 unfoldable pub piece_text : ℕ → Stream → List ℕ → List ℕ
@@ -50,7 +50,7 @@ PrintedCounts = (input : List ℕ) (n : ℕ) → get_or (printed_tallies input) 
 
 -- what `closing_lines` leaves to be written of its tallies
 abbrev pub written_counts : List ℕ → List ℕ
-written_counts tallies = let c = closing_text (closing (tally tallies)) in take c.len c.bytes
+written_counts tallies = closing (tally tallies)
 
 -- the text of the pieces, of `finish` and of its tallies is the output for the input (document 02, E3)
 abbrev pub WholeOutput : Type 0
