@@ -115,6 +115,7 @@ pub fn filtered_subframe(pf: Postfilter, a: [i16; 10], y: [i16; 60]) -> Subframe
     let v = compensated_subframe(k1, pf.tilt_prev, &z);
     let target = gain_target(r0, correlation::energy_from(&v, 0, SUBFRAME));
     let g = gained_subframe(target, pf.agc_gain_q12, &v);
+    // Named first: tried in place, and the check does not cover an array that a field or a call gives straight to a field.
     let out = g.out;
     let num_mem = filters::last_ten(&y);
     let den_mem = f.mem;
