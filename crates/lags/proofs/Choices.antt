@@ -1,5 +1,5 @@
 -- A law of the direction that is chosen.
-use Rattle.std.specs.Prelude.{Bool, true, false, cond, Option, Some, None, IfSome, ◌*◌, ◌/◌, ltb}
+use Rattle.std.specs.Prelude.{Bool, true, false, cond, Option, Some, None, IfSome}
 use Rattle.lags.specs.Lags.{chosen}
 use Rattle.lags.specs.declared.Direction.TheVariants.{Forward, Backward}
 use Rattle.lags.specs.declared.Best.{Best}
@@ -12,7 +12,7 @@ unfolding chosen
 chosen-holds P None None p q = tt
 chosen-holds P None (Some b) p q = q
 chosen-holds P (Some f) None p q = p
-chosen-holds P (Some f) (Some b) p q = one (ltb (f.c * f.c / f.d) (b.c * b.c / b.d))
+chosen-holds P (Some f) (Some b) p q = one _
   where
     one : (t : Bool) → IfSome (cond t (Some (record { to = Backward; best = b })) (Some (record { to = Forward; best = f }))) P
     one true = q

@@ -2,4 +2,3 @@
 pub mod Columns
 pub mod Pairs
 pub mod Shifts
-pub mod Squares
