@@ -69,7 +69,7 @@ module _ (s : State) (r : List ℕ) (samples : List ℤ) where
   unfolding answer_to samples_to
   refused_promised n e p = promised (Err n) e p refl
 
-  pub erased_promised : examined s r samples ≡ Erased → {a : Answer} {o : List ℤ} →
+  pub erased_promised : examined s r samples ≡ (Ok Erased) → {a : Answer} {o : List ℤ} →
       a ≡ acceptance (erased_checked s).outcome (erased_state s) → o ≡ erased_samples s → Promised a o
   unfolding answer_to samples_to
   erased_promised e p q = promised (Ok Erased) e p q
@@ -77,7 +77,7 @@ module _ (s : State) (r : List ℕ) (samples : List ℤ) where
   abbrev read : LspForm → List ℤ
   read form = candidates_of form r s.prev_lsp
 
-  pub received_promised : (rate : Rate) (form : LspForm) → examined s r samples ≡ Received rate form → {a : Answer} {o : List ℤ} →
+  pub received_promised : (rate : Rate) (form : LspForm) → examined s r samples ≡ Ok (Received rate form) → {a : Answer} {o : List ℤ} →
       a ≡ acceptance (received_checked s (read form)).outcome (received_state s rate (fields_of form r) (read form)) →
       o ≡ received_samples s rate (fields_of form r) (read form) → Promised a o
   unfolding answer_to samples_to

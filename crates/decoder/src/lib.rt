@@ -35,9 +35,10 @@ pub struct Answer {
     pub state: State,
 }
 
-// The tail that the classifier of erased frames reads (record_pcm_history), and where it starts in a frame.
+// Where that tail starts in a frame.
 const TAIL: usize = tables::FRAME_SIZE_SAMPLES - tables::ERASURE_CLASSIFIER_HISTORY_LEN;
 
+// The tail that the classifier of erased frames reads (record_pcm_history).
 fn pcm_history(tail: &[i16]) -> [i16; 120]
     requires { length tail.now ≡ 120 }
     ensures { result ≡ tail.now }
@@ -49,7 +50,11 @@ fn pcm_history(tail: &[i16]) -> [i16; 120]
 fn plain_inputs(signal: &[i16; 386]) -> [[i32; 60]; 4]
     ensures { result ≡ plain_inputs signal.now }
 {
-    Subframe::ALL.map(|s| pitch::plain_subframe(signal, s))
+    let x0 = pitch::plain_subframe(signal, Subframe::Zero);
+    let x1 = pitch::plain_subframe(signal, Subframe::One);
+    let x2 = pitch::plain_subframe(signal, Subframe::Two);
+    let x3 = pitch::plain_subframe(signal, Subframe::Three);
+    [x0, x1, x2, x3]
 }
 
 // With the postfilter on, through the pitch postfilter.
@@ -59,15 +64,22 @@ fn received_inputs(signal: &[i16; 386], on: bool, rate: Rate, lags: [i32; 4]) ->
     if !on {
         return plain_inputs(signal);
     }
-    Subframe::ALL.map(|s| pitch::pitch_postfilter(signal, s, lags[s as usize], rate))
+    let x0 = pitch::pitch_postfilter(signal, Subframe::Zero, lags[0], rate);
+    let x1 = pitch::pitch_postfilter(signal, Subframe::One, lags[1], rate);
+    let x2 = pitch::pitch_postfilter(signal, Subframe::Two, lags[2], rate);
+    let x3 = pitch::pitch_postfilter(signal, Subframe::Three, lags[3], rate);
+    [x0, x1, x2, x3]
 }
 
 // The signal with the excitation of a subframe.
 fn received_subframe(signal: [i16; 386], s: Subframe, b: Block) -> [i16; 386]
     ensures { result ≡ received_to b signal s }
 {
-    let u = adaptive::acb_contribution(&signal, s, b.lag, b.taps);
-    excitation::push_excitation(signal, s, excitation::excitation_sum(u, b.fixed))
+    let taps = b.taps;
+    let fixed = b.fixed;
+    let u = adaptive::acb_contribution(&signal, s, b.lag, taps);
+    let e = excitation::excitation_sum(u, fixed);
+    excitation::push_excitation(signal, s, e)
 }
 
 // The end of a frame: its samples, and the answer with the next state.
@@ -84,28 +96,39 @@ fn finish_frame(
     ensures answer { result ≡ acceptance checked.outcome (frame_state given checked.lsps inputs signal last) }
     ensures samples { samples.new ≡ frame_samples given checked.lsps inputs }
 {
-    let sets = lpc::frame_lpc_q13(given.prev_lsp, checked.lsps);
+    let prev = given.prev_lsp;
+    let lsps = checked.lsps;
+    let sets = lpc::frame_lpc_q13(prev, lsps);
+    let wide = given.syn_mem;
+    let mem = widths::narrow_memory(wide);
+    let pf = given.pf;
     let before = Filters {
-        syn_mem: widths::narrow_memory(given.syn_mem),
-        pf: given.pf,
+        syn_mem: mem,
+        pf: pf,
     };
-    let after = output::output_frame(samples, given.postfilter, sets, inputs, before);
-    let state = State {
-        prev_lsp: checked.lsps,
-        exc_hist: widths::history_after(&signal),
-        syn_mem: widths::widen_memory(after.syn_mem),
-        pf: after.pf,
+    let f = output::output_frame(samples, given.postfilter, sets, inputs, before);
+    let tail = pcm_history(&samples[TAIL..tables::FRAME_SIZE_SAMPLES]);
+    let history = widths::history_after(&signal);
+    let narrow = f.syn_mem;
+    let after = widths::widen_memory(narrow);
+    let pf_after = f.pf;
+    let next = State {
+        prev_lsp: lsps,
+        exc_hist: history,
+        syn_mem: after,
+        pf: pf_after,
         last_lag: last.last_lag,
         last_lag2: last.last_lag2,
         last_taps_sum_q15: last.last_taps_sum_q15,
         last_gain_unvoiced: last.last_gain_unvoiced,
-        pcm_hist: pcm_history(&samples[TAIL..]),
+        pcm_hist: tail,
         erased_run: last.erased_run,
         postfilter: given.postfilter,
     };
+    let outcome = checked.outcome;
     Answer {
-        verdict: Ok(checked.outcome),
-        state,
+        verdict: Ok(outcome),
+        state: next,
     }
 }
 
@@ -117,20 +140,20 @@ fn decode_erased(samples: &mut [i16], given: State) -> Answer
     ensures samples { samples.new ≡ erased_samples given }
 {
     let run = noise::next_run(given.erased_run);
-    let candidates = lsp::lsp_extrapolate(given.prev_lsp);
+    let prev = given.prev_lsp;
+    let candidates = lsp::lsp_extrapolate(prev);
     let checked = stability::lsp_check_or_previous(
         candidates,
-        given.prev_lsp,
+        prev,
         tables::LSP_DELTA_MIN_ERASURE_Q15,
     );
-    let class = voicing::classify_erasure_voicing(&given.pcm_hist, given.last_lag2 as u8);
-    let signal = erasure::erased_excitation(
-        widths::frame_signal(given.exc_hist),
-        class,
-        given.last_taps_sum_q15 as i16,
-        given.last_gain_unvoiced as i16,
-        run,
-    );
+    let pcm = given.pcm_hist;
+    let class = voicing::classify_erasure_voicing(&pcm, given.last_lag2 as u8);
+    let tap_sum = given.last_taps_sum_q15 as i16;
+    let gain = given.last_gain_unvoiced as i16;
+    let history = given.exc_hist;
+    let silent = widths::frame_signal(history);
+    let signal = erasure::erased_excitation(silent, class, tap_sum, gain, run);
     let inputs = plain_inputs(&signal);
     let last = LastFrame {
         last_lag: given.last_lag,
@@ -172,18 +195,23 @@ fn decode_received(
 {
     let prev = given.prev_lsp;
     let checked = stability::lsp_check_or_previous(candidates, prev, tables::LSP_DELTA_MIN_Q15);
-    let [b0, b1, b2, b3] = Subframe::ALL.map(|s| record::read_block(fields, rate, s));
-    let x0 = widths::frame_signal(given.exc_hist);
+    let b0 = record::read_block(fields, rate, Subframe::Zero);
+    let b1 = record::read_block(fields, rate, Subframe::One);
+    let b2 = record::read_block(fields, rate, Subframe::Two);
+    let b3 = record::read_block(fields, rate, Subframe::Three);
+    let history = given.exc_hist;
+    let x0 = widths::frame_signal(history);
     let x1 = received_subframe(x0, Subframe::Zero, b0);
     let x2 = received_subframe(x1, Subframe::One, b1);
     let x3 = received_subframe(x2, Subframe::Two, b2);
     let signal = received_subframe(x3, Subframe::Three, b3);
     let lags = [b0.base_lag, b1.base_lag, b2.base_lag, b3.base_lag];
     let inputs = received_inputs(&signal, given.postfilter, rate, lags);
+    let taps = b3.taps;
     let last = LastFrame {
         last_lag: b3.lag,
         last_lag2: b2.lag,
-        last_taps_sum_q15: excitation::tap_sum(b3.taps),
+        last_taps_sum_q15: excitation::tap_sum(taps),
         last_gain_unvoiced: excitation::unvoiced_gain(b2.gain_index, b3.gain_index),
         erased_run: 0,
     };
@@ -215,8 +243,10 @@ pub fn decode(given: State, record: &[u8], samples: &mut [i16]) -> Answer
         Err(n) => refused(given, n),
         Ok(Frame::Erased) => decode_erased(samples, given),
         Ok(Frame::Received(rate, form)) => {
-            let candidates = candidates_of(record, form, given.prev_lsp);
-            decode_received(samples, given, rate, layout::fields(record, form), candidates)
+            let prev = given.prev_lsp;
+            let candidates = candidates_of(record, form, prev);
+            let fields = layout::fields(record, form);
+            decode_received(samples, given, rate, fields, candidates)
         }
     }
 }
