@@ -1,4 +1,3 @@
-pub mod Tallies
 pub mod Decimal
 pub mod Ascending
 pub mod Values

@@ -1,4 +1,4 @@
-use Rattle.std.proofs.Common.{sym, ◌∙◌}
+use Rattle.std.proofs.Common.{rules, ◌≡◌, true, sym, ◌∙◌}
 use Rattle.digits.specs.Digits.{bytes_of}
 use Rattle.lines.specs.Replies.{is_record_line}
 use Rattle.lines.specs.Parts.{reply_of}
@@ -8,7 +8,8 @@ use Rattle.lines.proofs.text_reply.Goals as goal
 pub returns-in-Some : goal.returns-in-Some
 returns-in-Some c =
     let p = pairs_some c.args.text.now c.in-Some.bytes c.in-Some.ensures in
-    c.decoded.ensures ∙ (λ i. reply_of (sym p.0 i) ((c.deref.ensures.0 ∙ p.1) i) c.args.given)
+    let e : c.decoded.result ≡ reply_of true c.in-Some.bytes.items c.args.given = search rules in
+    e ∙ (λ i. reply_of (sym p.0 i) (p.1 i) c.args.given)
 
 pub returns-in-None : goal.returns-in-None
 returns-in-None c =

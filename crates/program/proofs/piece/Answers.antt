@@ -1,4 +1,4 @@
-use Rattle.std.proofs.Common.{rules, refl, sym, ap, ◌∙◌, ◌+◌, ◌-◌, length, take, drop, length-drop, arith}
+use Rattle.std.proofs.Common.{sym, ap, ◌∙◌, ◌-◌, length, drop, length-drop, arith}
 use lib.Seq.{take_all}
 use Rattle.lines.specs.Stream.{stream_after}
 use Rattle.lines.proofs.Cuts.{progress_step, progress_used, nothing-carried}
@@ -23,7 +23,7 @@ loop-rest-preserved c =
     c.loop-rest.invariant
     ∙ progress_step c.loop-rest.stream rest c.feed-f.result c.feed-f.ensures
     ∙ ap (stream_after c.feed-f.result.stream)
-      (sym (take_all (length rest - c.feed-f.result.used) (drop c.feed-f.result.used rest) (omega (arith, length-drop c.feed-f.result.used rest))))
+    (sym (take_all (length rest - c.feed-f.result.used) (drop c.feed-f.result.used rest) (omega (arith, length-drop c.feed-f.result.used rest))))
 
 pub returns : goal.returns
 returns c = sym (c.loop-rest.invariant ∙ nothing-carried c.loop-rest.stream c.loop-rest.rest.now (omega arith))
