@@ -14,7 +14,7 @@ use layout::LspForm;
 use numbers::Refusal;
 
 // What a record is of that is accepted.
-#[derive(Clone, Copy)]
+#[derive(Clone, Copy, PartialEq, Eq, Debug)]
 pub enum Frame {
     Erased,
     Received(Rate, LspForm),
