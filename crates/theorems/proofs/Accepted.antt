@@ -72,7 +72,7 @@ module _ (r : List ℕ) where
   passed-found =
       refused_or (no_byte r) _ (λ _. refused_or (wrong_kind r) _ (λ _. refused_or (wrong_length r) _ (λ _. passed_kind (byte r 0))))
 
-  pub received_passed : (rate : Rate) (form : LspForm) → found r ≡ Received rate form → Passed rate (fields_of form r)
+  pub received_passed : (rate : Rate) (form : LspForm) → found r ≡ Ok (Received rate form) → Passed rate (fields_of form r)
   received_passed rate form e = (subst FoundToBe e passed-found).passed
 
 -- ---- its codes

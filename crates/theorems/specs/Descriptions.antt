@@ -13,5 +13,5 @@ use Rattle.refusals.specs.declared.Frame.TheVariants.{Received}
 
 abbrev pub AcceptedDescriptions : Type 0
 AcceptedDescriptions =
-    (r : List ℕ) (form : LspForm) → found r ≡ Received High form → (k : Subframe) → let d = description (fields_of form r) k in
+    (r : List ℕ) (form : LspForm) → found r ≡ Ok (Received High form) → (k : Subframe) → let d = description (fields_of form r) k in
     Accepted d × ((block_of High (fields_of form r) k).fixed ≡ vector d)

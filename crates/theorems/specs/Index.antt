@@ -37,7 +37,7 @@ pub record HasIndexZero (r : List ℕ) : Type 0 where
 pub record IndexZero : Type 0 where
   pub candidates : (on : Bool) (r : List ℕ) → HasIndexZero r → candidates_of Index r (fresh_state on).prev_lsp ≡ mean_lsps
   pub stored :
-      (on : Bool) (rate : Rate) (i : Item) → HasIndexZero i.bytes → examined (fresh_state on) i.bytes i.samples ≡ Received rate Index
+      (on : Bool) (rate : Rate) (i : Item) → HasIndexZero i.bytes → examined (fresh_state on) i.bytes i.samples ≡ Ok (Received rate Index)
       → (next (fresh_state on) i).prev_lsp ≡ mean_lsps
 
 -- ---- kind 3 is kind 1, and kind 4 is kind 2
