@@ -1,6 +1,5 @@
 -- What a record is found to be depends on the state by its bounds alone.
-use Rattle.std.specs.Prelude.{Result, Ok, Err}
-use Rattle.numbers.specs.declared.Refusal.{Refusal}
+use Rattle.std.specs.Prelude.{Err}
 use mathlib.Core.Path.{◌≡◌, ap}
 use mathlib.Core.Bool.{Bool, cond, not}
 use mathlib.Core.List.{List}

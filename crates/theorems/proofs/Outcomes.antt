@@ -1,5 +1,5 @@
 -- The outcome that an acceptance says, and the LSPs that are stored: both by what the record is found to be.
-use Rattle.std.specs.Prelude.{Result, Ok, Err}
+use Rattle.std.specs.Prelude.{Result}
 use Rattle.numbers.specs.declared.Refusal.{Refusal}
 use mathlib.Core.Path.{◌≡◌, ap}
 use Rattle.refusals.specs.declared.Frame.{Frame}

@@ -1,6 +1,5 @@
 -- The pulse descriptions of an accepted High record are accepted ones, and the fixed vector that the decoder adds in a subframe is that of its description: so the theorem on equal vectors (demand 3) speaks of the vectors that the decoder makes (document 01, "Pulses"; proofs/Descriptions.antt).
-use Rattle.std.specs.Prelude.{Result, Ok, Err, ◌≡◌, List, ℕ}
-use Rattle.numbers.specs.declared.Refusal.{Refusal}
+use Rattle.std.specs.Prelude.{Ok, ◌≡◌, List, ℕ}
 use Rattle.pulses.specs.Pulses.{vector}
 use Rattle.vectors.specs.Vectors.{Accepted}
 use Rattle.excitation.specs.declared.Subframe.{Subframe}

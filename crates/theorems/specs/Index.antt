@@ -1,6 +1,5 @@
 -- Records that give their candidate LSPs by an index (document 02, E1; proofs/Index.antt).
-use Rattle.std.specs.Prelude.{Result, Ok, Err, ◌≡◌, Bool, List, [], ◌∷◌, ◌++◌, ℕ, ◌/◌, ◌%◌, ◌<◌, ℤ, ◌+ℤ◌}
-use Rattle.numbers.specs.declared.Refusal.{Refusal}
+use Rattle.std.specs.Prelude.{Ok, ◌≡◌, Bool, List, [], ◌∷◌, ◌++◌, ℕ, ◌/◌, ◌%◌, ◌<◌, ℤ, ◌+ℤ◌}
 use Rattle.integers.specs.Base.{entry, tabulate}
 use Rattle.tables.specs.Constants.{lpc_order, codebook_rows, band0_place, band1_place, band2_place}
 use Rattle.tables.specs.Tables.{mean_lsps}

@@ -1,6 +1,5 @@
 -- What an acceptance says of the LSPs of its frame, received and erased frames alike (document 02, E2; proofs/Outcomes.antt). What each of the three then tells of gaps is stated in crate stability.
-use Rattle.std.specs.Prelude.{Result, Ok, Err, ◌≡◌, List, ℤ, pos}
-use Rattle.numbers.specs.declared.Refusal.{Refusal}
+use Rattle.std.specs.Prelude.{Ok, ◌≡◌, List, ℤ, pos}
 use Rattle.tables.specs.Constants.{lsp_minimum, lsp_minimum_erased}
 use Rattle.stability.specs.Stability.{check_or_previous}
 use Rattle.lsp.specs.Lsps.{extrapolated}
