@@ -6,15 +6,15 @@ use Prim.Native.Nat.{ℕ}
 use lib.Dec.{eqb}
 use lib.IntN.{ℤ}
 use lib.ListN.{replicate}
-use Rattle.std.specs.Prelude.{Result, Err, Option, Some, None}
+use Rattle.std.specs.Prelude.{Result, Ok, Err, Option, Some, None}
 use Rattle.arrayvec.specs.ArrayVec.{ArrayVec}
 use Rattle.tables.specs.Constants.{numbers_counted}
 use Rattle.numbers.specs.Numbers.{number}
 use Rattle.numbers.specs.declared.Refusal.{Refusal}
 use Rattle.numbers.specs.declared.Refusal.TheVariants.{SampleLength, StateBounds, NoByte, Kind, Length, LagCode, StepCode, GainIndex, Flags, Signs}
 use Rattle.refusals.specs.Refusals.{number_found}
-use Rattle.refusals.specs.declared.Found.{Found}
-use Rattle.refusals.specs.declared.Found.TheVariants.{Erased, Received, Refused}
+use Rattle.refusals.specs.declared.Frame.{Frame}
+use Rattle.refusals.specs.declared.Frame.TheVariants.{Erased, Received}
 use Rattle.digits.specs.Digits.{sample_line, bytes_of, pairs_of}
 use Rattle.counts.specs.Counts.{counted}
 use Rattle.decoder.specs.Decoder.{examined, answer_to, answer_of, samples_of}
@@ -44,18 +44,18 @@ number-some GainIndex = refl
 number-some Flags = refl
 number-some Signs = refl
 
-found-number : (f : Found) (s : State) (bytes : List ℕ) (xs : List ℤ) → answer_number (answered (answer_to f s bytes).verdict xs) ≡ number_found f
+found-number : (f : Result Frame Refusal) (s : State) (bytes : List ℕ) (xs : List ℤ) → answer_number (answered (answer_to f s bytes).verdict xs) ≡ number_found f
 unfolding answer_to
-found-number (Refused r) s bytes xs = refl
-found-number Erased s bytes xs = refl
-found-number (Received rate form) s bytes xs = refl
+found-number (Err r) s bytes xs = refl
+found-number (Ok Erased) s bytes xs = refl
+found-number (Ok (Received rate form)) s bytes xs = refl
 
-found-text : (f : Found) (s : State) (bytes : List ℕ) (xs : List ℤ)
+found-text : (f : Result Frame Refusal) (s : State) (bytes : List ℕ) (xs : List ℤ)
     → answer_line (answered (answer_to f s bytes).verdict xs) ≡ cond (eqb (number_found f) 0) (sample_line xs) (refusal_line (number_found f))
 unfolding answer_to
-found-text (Refused r) s bytes xs = rw (number-some r)
-found-text Erased s bytes xs = refl
-found-text (Received rate form) s bytes xs = refl
+found-text (Err r) s bytes xs = rw (number-some r)
+found-text (Ok Erased) s bytes xs = refl
+found-text (Ok (Received rate form)) s bytes xs = refl
 
 pub reply-state : (b : Bool) (bytes : List ℕ) (s : State) → (reply_of b bytes s).state ≡ state_for b bytes s
 unfolding reply_of

@@ -2,8 +2,8 @@
 use Rattle.std.specs.Prelude.{Bool, cond, List, ℕ, eqb, ℤ, Result, Ok, Err}
 use Rattle.std.specs.List.{position_or_len}
 use Rattle.numbers.specs.Numbers.{number}
-use Rattle.verdict.specs.declared.Verdict.{Verdict}
-use Rattle.verdict.specs.declared.Verdict.TheVariants.{Accepted, Refused}
+use Rattle.numbers.specs.declared.Refusal.{Refusal}
+use Rattle.stability.specs.declared.Outcome.{Outcome}
 use Rattle.decoder.specs.Decoder.{answer_of, samples_of}
 use Rattle.digits.specs.Digits.{bytes_of, sample_line}
 use Rattle.counts.specs.Counts.{counted}
@@ -30,9 +30,9 @@ answer_line (Ok samples) = sample_line samples
 answer_line (Err r) = refusal_line (refusal_number r)
 
 -- the answer to a record by what the decoder says of it
-abbrev pub answered : Verdict → List ℤ → Result (List ℤ) LineRefusal
-answered (Accepted outcome) samples = Ok samples
-answered (Refused r) samples = Err (Record r)
+abbrev pub answered : Result Outcome Refusal → List ℤ → Result (List ℤ) LineRefusal
+answered (Ok outcome) samples = Ok samples
+answered (Err r) samples = Err (Record r)
 
 -- the answer to a line in its two parts
 unfoldable pub reply_of : Bool → List ℕ → State → Reply

@@ -50,7 +50,7 @@ impl From<LineRefusal> for u8 {
     // Document 01's number; 11 where the line is no record.
     fn from(refusal: LineRefusal) -> u8 {
         match refusal {
-            LineRefusal::Record(r) => numbers::refusal_number(r),
+            LineRefusal::Record(r) => u8::from(r),
             LineRefusal::NoRecord => 11,
         }
     }
@@ -120,8 +120,8 @@ fn answered(verdict: Verdict, samples: [i16; 240]) -> Result<[i16; 240], LineRef
     ensures { result ≡ answered verdict samples }
 {
     match verdict {
-        Verdict::Accepted(_) => Ok(samples),
-        Verdict::Refused(r) => Err(LineRefusal::Record(r)),
+        Ok(_) => Ok(samples),
+        Err(refusal) => Err(LineRefusal::Record(refusal)),
     }
 }
 
