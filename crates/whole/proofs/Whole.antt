@@ -3,19 +3,18 @@ use mathlib.Core.Path.{◌≡◌, refl, sym, ap, subst, ◌∙◌}
 use mathlib.Core.Bool.{true, false}
 use mathlib.Core.List.{List, [], ◌∷◌, ◌++◌, append_assoc, append-nil}
 use mathlib.Core.Logic.{⊎_elim}
-use Prim.Native.Nat.{ℕ, ◌+◌, ◌≤◌, ◌<◌, min}
+use Prim.Native.Nat.{ℕ, ◌≤◌, ◌<◌, min}
 use native.Mathlib.Omega.{arith}
-use lib.Dec.{eqb, ltb}
-use lib.ListN.{length, take, get_or, replicate, length-replicate, length-take, get_or-replicate, get_or-eq_default}
+use lib.Dec.{eqb}
+use lib.ListN.{length, get_or, replicate, length-replicate, get_or-replicate, get_or-eq_default}
 use borrow.Author.Tests.{lt-ltb, le-ltb}
 use Rattle.integers.specs.Natural.{le-or-lt}
-use Rattle.tables.specs.Constants.{line_max, numbers_counted}
-use Rattle.digits.specs.Digits.{bytes_of}
+use Rattle.tables.specs.Constants.{numbers_counted}
 use Rattle.counts.specs.Counts.{most, counted, Closes, tally, closing}
 use Rattle.counts.proofs.Ascending.{ascending_lines}
 use Rattle.state.specs.State.{fresh_state}
 use Rattle.state.specs.declared.State.{State}
-use Rattle.lines.specs.Replies.{is_record_line, line_number, line_state, line_text}
+use Rattle.lines.specs.Replies.{line_number, line_state, line_text}
 use Rattle.whole.specs.Output.{lines_from, lines_of, text_from, numbers_from, answers_to, count_of, printed_count}
 use Rattle.lines.specs.Stream.{Line, pushed, blank, is_begun, text_of, fresh_stream, end_number, end_text, next_line, stream_after, answers_from, ended_of, finished}
 use Rattle.lines.specs.Parts.{answer_number, answer_line, line_reply, text_reply}
