@@ -10,12 +10,7 @@ fn write_ten(out: &mut impl Write, lsps: [i16; 10]) -> io::Result<()> {
 
 // The code of what was done to the candidates, and the LSPs.
 fn write_stabilised(out: &mut impl Write, s: Stabilised) -> io::Result<()> {
-    writeln!(
-        out,
-        "{} {}",
-        u8::from(s.outcome),
-        Spaced(&s.lsps)
-    )
+    writeln!(out, "{} {}", u8::from(s.outcome), Spaced(&s.lsps))
 }
 
 // The minimum leads the LSPs.

@@ -11,13 +11,13 @@ module _ {F B : Type 0} (g : Mut F (ℕ × Unit {0}) B) (f : F) (h : ℕ → B) 
   from_fn-at : (ys : List B) (d : B) (n i k : ℕ) → i + n ≡ N → IsFromFnResultFrom g f ys i n → i ≤ k → k < N → get_or ys k d ≡ h k
   from_fn-at ys d zero i k e r l u = absurd (omega arith)
   from_fn-at ys d (suc n) i k e r l u =
-    let c = calls i r.1 r.0 (omega arith) r.3 in
-    elim (le-or-lt k i) [
-      inl w ↦ let s : i ≡ k = omega arith in subst (λ (m : ℕ). get_or ys m d ≡ h m) s (r.2.1 d ∙ c.0)
-    | inr w ↦ from_fn-at ys d n (i + 1) k (omega arith) (subst (λ (p : F). IsFromFnResultFrom g p ys (i + 1) n) c.1 r.4) (omega arith) u
-    ]
+      let c = calls i r.1 r.0 (omega arith) r.3 in
+      elim (le-or-lt k i) [
+        | inl w ↦ let s : i ≡ k = omega arith in subst (λ (m : ℕ). get_or ys m d ≡ h m) s (r.2.1 d ∙ c.0)
+        | inr w ↦ from_fn-at ys d n (i + 1) k (omega arith) (subst (λ (p : F). IsFromFnResultFrom g p ys (i + 1) n) c.1 r.4) (omega arith) u
+      ]
 
   -- each call returns h of its index and leaves the closure as it is
   pub from_fn_is : {ys : List B} → (d : B) → IsFromFnResult g f ys N → ys ≡ tabulate h N
   from_fn_is {ys} d r =
-    sym (entries_all d ys N r.long) ∙ tabulate_ext (λ i. get_or ys i d) h N (λ i lt. from_fn-at ys d N 0 i (omega arith) r.each (omega arith) lt)
+      sym (entries_all d ys N r.long) ∙ tabulate_ext (λ i. get_or ys i d) h N (λ i lt. from_fn-at ys d N 0 i (omega arith) r.each (omega arith) lt)

@@ -51,8 +51,8 @@ returns-in-Ok-Received c =
     let found = record_found_lem a.given r x c.if-samples-ne-FRAME_SIZE_SAMPLES.false (sym c.in_bounds.ensures ∙ c.if-not-in_bounds.false) is in
     let d = c.decode_received.ensures in
     let p =
-        received_promised a.given r x g.rate g.form found
-        (d.answer ∙ (λ i. let y = c.candidates_of-candidates.ensures i in acceptance (received_checked a.given y).outcome (received_state a.given g.rate (c.fields-fields.ensures i) y)))
-        (d.samples ∙ (λ i. received_samples a.given g.rate (c.fields-fields.ensures i) (c.candidates_of-candidates.ensures i)))
+    received_promised a.given r x g.rate g.form found
+    (d.answer ∙ (λ i. let y = c.candidates_of-candidates.ensures i in acceptance (received_checked a.given y).outcome (received_state a.given g.rate (c.fields-fields.ensures i) y)))
+    (d.samples ∙ (λ i. received_samples a.given g.rate (c.fields-fields.ensures i) (c.candidates_of-candidates.ensures i)))
     in
     record { answer = p.0; number = p.1.0; samples = p.1.1 }
