@@ -4,6 +4,7 @@
 ghost use Rattle.std.specs.Prelude.{◌≡◌};
 ghost use Rattle.basicop.specs.Operators.{word16, scaled, add16, sub16, mult16, shl16, shr16};
 
+// No plainer as one function with `sat32` and `limited_sample`: each is a line of its own widths, under the Rust's name.
 pub fn saturate(x: i32) -> i16
     ensures { result ≡ word16 x }
 {

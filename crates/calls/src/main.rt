@@ -24,31 +24,32 @@ use verdict::Verdict;
 // The code where no frame was decoded.
 const NO_OUTCOME: u8 = 3;
 
-// What a line is answered, but for the state's checksum, and the state after it.
+// What a line is answered, but for the state's checksum, and the state after it. A state that is given has no verdict.
 #[derive(Clone, Copy)]
 struct Turn {
-    number: u8,
-    outcome: u8,
+    verdict: Option<Verdict>,
     samples: Checksum,
     state: State,
 }
 
 impl Turn {
-    // A state that is given, with no frame.
     fn given(state: State) -> Self {
         Turn {
-            number: 0,
-            outcome: NO_OUTCOME,
+            verdict: None,
             samples: Checksum::NONE,
             state,
         }
     }
-}
 
-fn outcome_code(v: Verdict) -> u8 {
-    match v {
-        Ok(outcome) => u8::from(outcome),
-        Err(_) => NO_OUTCOME,
+    fn number(&self) -> u8 {
+        self.verdict.map_or(0, verdict::verdict_number)
+    }
+
+    fn outcome_code(&self) -> u8 {
+        match self.verdict {
+            Some(Ok(outcome)) => u8::from(outcome),
+            _ => NO_OUTCOME,
+        }
     }
 }
 
@@ -57,8 +58,7 @@ fn decoded(alloc: Global, line: &Line<'_>, state: State) -> anyhow::Result<Turn>
     let mut samples = vec![in alloc; line.second.cast_signed(); usize::from(line.first)]?;
     let answer = decoder::decode(state, line.bytes.as_slice(), samples.as_mut_slice());
     Ok(Turn {
-        number: verdict::verdict_number(answer.verdict),
-        outcome: outcome_code(answer.verdict),
+        verdict: Some(answer.verdict),
         samples: Checksum::NONE.with(samples.as_slice()),
         state: answer.state,
     })
@@ -85,7 +85,9 @@ fn main(rt: HostRuntime) -> anyhow::Result<()> {
         writeln!(
             out,
             "{} {} {} {sum}",
-            turn.number, turn.outcome, turn.samples
+            turn.number(),
+            turn.outcome_code(),
+            turn.samples
         )?;
     }
     out.flush()?;

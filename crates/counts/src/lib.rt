@@ -18,7 +18,7 @@ pub fn no_tallies() -> [u64; 12]
     [0; 12]
 }
 
-// One more of n; a number above 11 is not counted.
+// One more of n; a number above 11 is not counted. A type of the twelve would ask more of callers.
 pub fn count(mut tallies: [u64; 12], n: u8) -> [u64; 12]
     ensures { result ≡ counted tallies n }
 {

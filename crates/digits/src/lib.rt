@@ -55,7 +55,7 @@ fn sample_digits(x: i16) -> [u8; 4]
     [glyph(n / 4096), glyph(n / 256), glyph(n / 16), glyph(n)]
 }
 
-// The digits of each sample.
+// The digits of each sample. The closure has clauses, since what is read off its body leaves out the array that it returns.
 fn frame_digits(samples: [i16; 240]) -> [[u8; 4]; 240]
     ensures { result ≡ tabulate (λ i. sample_digits (entry samples i)) 240 }
 {

@@ -65,7 +65,8 @@ fn square_at(x: &[i16], i: usize) -> u64
     }
 }
 
-// The energy of the sixty samples one further, from that of those at q: it differs by two squares.
+// The energy of the sixty samples one further, from that of those at q: it differs by two squares. No plainer with signal, direction
+// and place in a struct: clauses would read each through it.
 fn moved_energy(x: &[i16], to: Direction, q: usize, e: u64) -> u64
     requires e_value { pos e ≡ energy x.now q 60 }
     requires e_bound { e ≤ 2 ^ 37 }

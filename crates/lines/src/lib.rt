@@ -15,7 +15,7 @@ use verdict::Verdict;
 pub type Line = Option<ArrayVec<u8, 1098>>;
 
 // What is carried from one piece of the input to the next. `tallies` counts lines by number, those with samples at 0.
-#[derive(Drop)]
+#[derive(Clone, Drop)]
 pub struct Stream {
     pub state: State,
     pub line: Line,
@@ -23,7 +23,7 @@ pub struct Stream {
 }
 
 // What a call took of a piece, and what is to be written: the answer to a line that ended, with its newline, or nothing.
-#[derive(Drop)]
+#[derive(Clone, Drop)]
 pub struct Progress {
     pub stream: Stream,
     pub text: ArrayVec<u8, 961>,

@@ -68,7 +68,8 @@ fn expanded(lsp: [i16; 10], first: usize) -> [i64; 11]
     p
 }
 
-// A coefficient from those of both polynomials at its own place, p1 and q1, and at the one before.
+// A coefficient from those of both polynomials at its own place, p1 and q1, and at the one before. Their bound is no plainer as a
+// type's: it grows with each factor, and holds of all after the last.
 fn rounded_q13(p1: i64, p0: i64, q1: i64, q0: i64) -> i16
     requires within { Within (2 ^ 37) p1 }
     requires within_2 { Within (2 ^ 37) p0 }

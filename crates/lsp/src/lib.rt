@@ -19,6 +19,7 @@ fn blended(wp: i16, wc: i16, prev: [i16; 10], cur: [i16; 10]) -> [i16; 10]
     std::array::from_fn(|i| weighed(wp, wc, prev[i], cur[i]))
 }
 
+// k is any number, as the Rust's: a type of four subframes would ask more of callers.
 pub fn lsp_interpolate(k: usize, prev: [i16; 10], cur: [i16; 10]) -> [i16; 10]
     ensures { result ≡ interpolated k prev cur }
 {

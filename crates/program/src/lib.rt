@@ -30,6 +30,7 @@ fn piece(given: Stream, input: &[u8]) -> Result<Stream, WriteFailed>
 {
     let mut stream = given;
     let mut rest = input;
+    // No counting loop: how much of a piece is used up is what `feed` says.
     while rest.len() > 0 {
         let f = lines::feed(stream, rest);
         write(&f.text)?;

@@ -34,6 +34,7 @@ pub fn candidate_lsps(record: &[u8]) -> [i16; 10]
     words_at(record, tables::LSPS_PLACE)
 }
 
+// No plainer with fields, rate and subframe in a struct: what each function reads of them differs.
 fn base_lag(fields: &[u8], s: Subframe) -> u16
     ensures { result ≡ base_lag_of fields.now s }
 {

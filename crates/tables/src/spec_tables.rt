@@ -94,7 +94,7 @@ pub fn lsp_dc() -> [i16; 10]
     LSP_DC_PREDICTED_FREQ_Q15
 }
 
-// The gain of an index; 0 for an index above 23, where the Rust has none.
+// The gain of an index; 0 for an index above 23, where the Rust has none. Tried by `get`: no proof ties its answer to the table.
 pub fn fixed_codebook_gain(index: u8) -> i16
     ensures { result ≡ pos (get_or gains index 0) }
 {
