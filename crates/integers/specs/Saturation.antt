@@ -1,5 +1,6 @@
 -- Laws of saturation, for every width at once.
 use Rattle.std.specs.Prelude.{◌≡◌, true, false, ℕ, ◌+◌, ◌^◌, ◌≤◌, min, leb, ltb, ℤ, nat_abs, ◌-ℤ◌}
+use Rattle.std.proofs.lemmas.Bool.Decides.{nat_tests}
 use Rattle.std.proofs.Common.{sym, ◌∙◌, subst, lt_of_le_of_lt, leb→le, ltb→lt, to_z-of_z}
 use Rattle.std.proofs.Math.Path.{ap}
 use native.Mathlib.Omega.{arith}
@@ -7,7 +8,7 @@ use borrow.Author.Tests.{ltb-true, ltb-false}
 use Rattle.std.proofs.Math.Dec.{T}
 use Rattle.std.proofs.Math.IntN.{pos, negsuc}
 use Rattle.std.specs.Int.Signed.{mag, lt_z}
-use Rattle.std.specs.Int.{Width}
+use Rattle.std.specs.Int.{Width, int_max, int_min}
 use mir.Val.{SFits, hbits, to_z, of_z}
 use Rattle.integers.specs.Base.{saturated}
 use Rattle.integers.specs.Linear.{distance_le, distance_ge}
@@ -73,7 +74,17 @@ unfolding saturated
 saturated-twice m M h (pos n) = ap pos (omega arith)
 saturated-twice m M h (negsuc n) = ap negsuc (omega arith)
 
--- ---- code that saturates a number x of width w to width w', whose largest number is M: what its tests say of x's bits, and what each arm returns
+-- ---- code that saturates a number x of width w by std's clamp: `clamp-is 32767 f c.clamp.ensures.value`
+
+clamped : (M : ℕ) (z : ℤ) → int_max (negsuc M) (int_min z (pos M)) ≡ saturated M z
+unfolding saturated
+clamped M (pos n) = grind (arith, nat_tests)
+clamped M (negsuc n) = grind (arith, nat_tests)
+
+pub clamp-is : {w : Width} (M : ℕ) {x r : ℤ} → SFits w x → r ≡ int_max (negsuc M) (int_min (to_z w (of_z w x)) (pos M)) → r ≡ saturated M x
+clamp-is {w} M {x} f e = e ∙ clamped M (to_z w (of_z w x)) ∙ ap (saturated M) (to_z-of_z f)
+
+-- ---- the same by two tests, to width w', whose largest number is M: what its tests say of x's bits, and what each arm returns
 
 module _ (w w' : Width) (M : ℕ) (m : T (ltb M (2 ^ hbits w'))) {x : ℤ} (f : SFits w x) where
   pub arm_above : lt_z (pos M) (to_z w (of_z w x)) ≡ true → pos M ≡ saturated M x
