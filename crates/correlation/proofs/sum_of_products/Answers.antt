@@ -10,19 +10,20 @@ use Rattle.correlation.proofs.Parts.{high, low, high-within, low-within, parts_s
 use Rattle.correlation.proofs.Terms.{term, correlation-is, Summed, summed-start, summed-none, summed-next, summed-fits}
 use Rattle.correlation.proofs.sum_of_products.Goals as goal
 
--- a sum with one number more, as the code has it
-added : {B : ℕ} {f : ℕ → ℤ} {acc v : ℤ} {n : ℕ} → Summed B f acc n → Within B (f n) → v ≡ f n → n < 255 → T (ltb (255 * B) (2 ^ 31)) →
-    SFits w32 (acc +ℤ v) × Summed B f (to_z w32 (of_z w32 (acc +ℤ v))) (n + 1)
-added {B} {f} {acc} {v} {n} s small e h t =
-    let fits : SFits w32 (acc +ℤ f n) = summed-fits s small 255 h t in
-    let sum = subst (λ (z : ℤ). Summed B f z (n + 1)) (sym (to_z-of_z fits)) (summed-next s small) in
-    subst (λ (z : ℤ). SFits w32 (acc +ℤ z) × Summed B f (to_z w32 (of_z w32 (acc +ℤ z))) (n + 1)) (sym e) (fits, sum)
+-- a product of two samples and the bounds of its parts, as the code has it
+multiplied : (x y : ℤ) {p : ℤ} → mag p < 2 ^ 31 → p ≡ to_z w16 (of_z w16 x) *ℤ to_z w16 (of_z w16 y) → mag x < 2 ^ 15 → mag y < 2 ^ 15 →
+    (to_z w32 (of_z w32 p) ≡ x *ℤ y) × Within (2 ^ 30) (x *ℤ y) × Within (2 ^ 15) (high (x *ℤ y)) × Within (2 ^ 16) (low (x *ℤ y))
+multiplied x y h e f g =
+    let small = within-mul (within-mag w16 x f) (within-mag w16 y g) in
+    (back w32 h (e ∙ (λ i. read_back w16 x f i *ℤ read_back w16 y g i)), small, high-within (x *ℤ y) (fits-within small tt), low-within (x *ℤ y))
 
--- a product of two samples, as the code has it
-multiplied : (x y p : ℤ) → mag p < 2 ^ 31 → p ≡ to_z w16 (of_z w16 x) *ℤ to_z w16 (of_z w16 y) → mag x < 2 ^ 15 → mag y < 2 ^ 15 →
-    (to_z w32 (of_z w32 p) ≡ x *ℤ y) × Within (2 ^ 30) (x *ℤ y)
-multiplied x y p h e f g =
-    (back w32 h (e ∙ (λ i. read_back w16 x f i *ℤ read_back w16 y g i)), within-mul (within-mag w16 x f) (within-mag w16 y g))
+-- a sum with one number more, a call's answer r, as the code has it
+added : {B : ℕ} {f : ℕ → ℤ} {acc r : ℤ} {n : ℕ} → Summed B f acc n → Within B (f n) → mag r < 2 ^ 31 → r ≡ f n → n < 255 → T (ltb (255 * B) (2 ^ 31)) →
+    let z = acc +ℤ to_z w32 (of_z w32 r) in SFits w32 z × Summed B f (to_z w32 (of_z w32 z)) (n + 1)
+added {B} {f} {acc} {r} {n} s small h e k t =
+    let is = ap (λ (z : ℤ). acc +ℤ z) (back w32 h e) in
+    let fits = subst (SFits w32) (sym is) (summed-fits s small 255 k t) in
+    (fits, subst (λ (z : ℤ). Summed B f z (n + 1)) (sym (to_z-of_z fits ∙ is)) (summed-next s small))
 
 pub loop-i-init : goal.loop-i-init
 loop-i-init c = (summed-start _ _, summed-start _ _, summed-none _ _)
@@ -31,28 +32,24 @@ pub overflow_add-high : goal.overflow_add-high
 overflow_add-high c =
     let a = c.args in
     let i = c.loop-i.i in
-    let p = multiplied (entry a.x.now (a.a + i)) (entry a.y.now (a.b + i)) c.product-p.result c.product-p.type_inv c.product-p.ensures (search rules) (search rules) in
-    let part = back w32 c.high_part-high.type_inv (c.high_part-high.ensures ∙ ap high p.0) in
-    (added c.loop-i.invariant.0 (high-within (term a.x.now a.a a.y.now a.b i) (fits-within p.1 tt)) part (omega arith) tt).0
+    let p = multiplied (entry a.x.now (a.a + i)) (entry a.y.now (a.b + i)) c.product-p.type_inv c.product-p.ensures (search rules) (search rules) in
+    (added c.loop-i.invariant.0 p.2 c.high_part-high.type_inv (c.high_part-high.ensures ∙ ap high p.0) (omega arith) tt).0
 
 pub overflow_add-low : goal.overflow_add-low
 overflow_add-low c =
     let a = c.args in
     let i = c.loop-i.i in
-    let p = multiplied (entry a.x.now (a.a + i)) (entry a.y.now (a.b + i)) c.product-p.result c.product-p.type_inv c.product-p.ensures (search rules) (search rules) in
-    let part = back w32 c.low_part-low.type_inv (c.low_part-low.ensures ∙ ap low p.0) in
-    (added c.loop-i.invariant.1 (low-within (term a.x.now a.a a.y.now a.b i)) part (omega arith) tt).0
+    let p = multiplied (entry a.x.now (a.a + i)) (entry a.y.now (a.b + i)) c.product-p.type_inv c.product-p.ensures (search rules) (search rules) in
+    (added c.loop-i.invariant.1 p.3 c.low_part-low.type_inv (c.low_part-low.ensures ∙ ap low p.0) (omega arith) tt).0
 
 pub loop-i-preserved : goal.loop-i-preserved
 loop-i-preserved c =
     let a = c.args in
     let i = c.loop-i.i in
     let f : ℕ → ℤ = term a.x.now a.a a.y.now a.b in
-    let p = multiplied (entry a.x.now (a.a + i)) (entry a.y.now (a.b + i)) c.product-p.result c.product-p.type_inv c.product-p.ensures (search rules) (search rules) in
-    let upper = back w32 c.high_part-high.type_inv (c.high_part-high.ensures ∙ ap high p.0) in
-    let lower = back w32 c.low_part-low.type_inv (c.low_part-low.ensures ∙ ap low p.0) in (
-      (added c.loop-i.invariant.0 (high-within (f i) (fits-within p.1 tt)) upper (omega arith) tt).1,
-      (added c.loop-i.invariant.1 (low-within (f i)) lower (omega arith) tt).1,
+    let p = multiplied (entry a.x.now (a.a + i)) (entry a.y.now (a.b + i)) c.product-p.type_inv c.product-p.ensures (search rules) (search rules) in (
+      (added c.loop-i.invariant.0 p.2 c.high_part-high.type_inv (c.high_part-high.ensures ∙ ap high p.0) (omega arith) tt).1,
+      (added c.loop-i.invariant.1 p.3 c.low_part-low.type_inv (c.low_part-low.ensures ∙ ap low p.0) (omega arith) tt).1,
       subst (λ (z : ℤ). Summed (2 ^ 30) f z (i + 1)) (sym (sum_step f i)) (summed-next c.loop-i.invariant.2 p.1),
     )
 
