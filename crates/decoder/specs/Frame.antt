@@ -29,7 +29,7 @@ use Rattle.decoder.specs.declared.LastFrame.{LastFrame}
 -- ---- the input of the synthesis
 
 -- f of each subframe
-abbrev pub each_subframe : (Subframe → List ℤ) → List (List ℤ)
+abbrev pub each_subframe : {A : Type 0} → (Subframe → A) → List A
 each_subframe f = f Zero ∷ f One ∷ f Two ∷ f Three ∷ []
 
 -- the excitation itself, in erased frames and with the postfilter off
