@@ -49,6 +49,13 @@ pub fn times(a: Wide, b: u64) -> Wide
     }
 }
 
+// The square of a word times a word, modulo 2^128.
+pub fn square_times(x: u64, k: u64) -> Wide
+    ensures { value result ≡ x * x * k % 2 ^ 128 }
+{
+    times(product(x, x), k)
+}
+
 // A number times a power of two, modulo 2^128, for every count.
 pub fn shift_left(a: Wide, n: u32) -> Wide
     ensures { value result ≡ value a * 2 ^ n % 2 ^ 128 }
