@@ -48,7 +48,7 @@ pub fn window_place(to: Direction, p: u16, m: u16) -> usize
 {
     match to {
         Direction::Forward => usize::from(p) + usize::from(m),
-        Direction::Backward => if m <= p { usize::from(p - m) } else { 0 },
+        Direction::Backward => usize::from(p.saturating_sub(m)),
     }
 }
 
@@ -80,14 +80,6 @@ fn moved_energy(x: &[i16], to: Direction, q: usize, e: u64) -> u64
     }
 }
 
-// a * a * b, which has less than 128 bits.
-fn square_times(a: u64, b: u64) -> Wide
-    requires { (a ≤ 2 ^ 36) × (b ≤ 2 ^ 37) }
-    ensures { value result ≡ a * a * b }
-{
-    wide::times(wide::product(a, a), b)
-}
-
 // Whether c²/d is above that of the best so far, exactly.
 fn is_better(best: Option<Best>, c: u64, d: u64) -> bool
     requires small { IfSome best Small }
@@ -96,7 +88,7 @@ fn is_better(best: Option<Best>, c: u64, d: u64) -> bool
 {
     match best {
         None => true,
-        Some(b) => wide::less(square_times(b.c, d), square_times(c, b.d)),
+        Some(b) => wide::less(wide::square_times(b.c, d), wide::square_times(c, b.d)),
     }
 }
 
