@@ -1,5 +1,6 @@
 -- The lag that leads, and what is answered.
 use Rattle.std.specs.Prelude.{◌≡◌, refl, Bool, true, false, cond, ◌&&◌, Option, Some, None, List, ℕ, suc, ◌+◌, ◌-◌, ◌≤◌, ltb, ℤ}
+use Rattle.std.specs.Bool.{then_some}
 use Rattle.std.proofs.Common.{sym, ap, ◌∙◌, subst, arith}
 use Rattle.voicing.specs.Voicing.{counts, rank, score, gated, candidate, first_highest, leading_lag, voicing_of}
 use Rattle.voicing.specs.Search.{score_of, IsRanked, Weighs}
@@ -65,11 +66,12 @@ module _ (y : List ℤ) (centre : ℕ) where
     passes : (counts y m && gated y m) ≡ w.gated
     passes = ap (λ (b : Bool). b && gated y m) h.counts ∙ sym h.gated
 
-    pub voiced : w.gated ≡ true → Some w.lag ≡ voicing_of y centre
-    voiced g = ap Some h.lag ∙ answer (passes ∙ g)
+    answered : (t : Bool) → (counts y m && gated y m) ≡ t → then_some t w.lag ≡ voicing_of y centre
+    answered true p = ap Some h.lag ∙ answer p
+    answered false p = answer p
 
-    pub ungated : w.gated ≡ false → None ≡ voicing_of y centre
-    ungated g = answer (passes ∙ g)
+    pub counted : then_some w.gated w.lag ≡ voicing_of y centre
+    counted = answered w.gated passes
 
   pub uncounted : counts y m ≡ false → None ≡ voicing_of y centre
   uncounted h = answer (ap (λ (b : Bool). b && gated y m) h)

@@ -35,16 +35,15 @@ fn lag_rank(c: u64, e: u64, t: u64) -> Wide
     requires { c ≤ 2 ^ 37 }
     ensures { value result ≡ c * c * voicing_rank_one / (e * t) }
 {
-    let square = wide::times(wide::product(c, c), tables::VOICING_RANK_ONE);
-    quotient::divide(square, wide::product(e, t))
+    quotient::divide(wide::square_times(c, tables::VOICING_RANK_ONE), wide::product(e, t))
 }
 
+// Not one function with pitch's gate: each is one comparison over `wide`, of a factor, a bound and an order of its own.
 fn passes_gate(c: u64, e: u64, t: u64) -> bool
     requires { c ≤ 2 ^ 37 }
     ensures { result ≡ leb (e * t) (voicing_gate * (c * c)) }
 {
-    let square = wide::times(wide::product(c, c), tables::VOICING_GATE);
-    !wide::less(square, wide::product(e, t))
+    !wide::less(wide::square_times(c, tables::VOICING_GATE), wide::product(e, t))
 }
 
 // A lag with its sums.
@@ -103,5 +102,5 @@ pub fn classify_erasure_voicing(pcm_hist: &[i16; 120], centre: u8) -> Option<u8>
     ensures { result ≡ voicing_of pcm_hist.now centre }
 {
     let w = leading(pcm_hist, centre)?;
-    if w.gated { Some(w.lag) } else { None }
+    w.gated.then_some(w.lag)
 }
