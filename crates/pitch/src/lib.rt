@@ -17,26 +17,6 @@ use wide::Wide;
 // A subframe as a count of products.
 const SUBFRAME: u8 = tables::SUBFRAME_SIZE as u8;
 
-// Whether 4 c² is less than d t: the prediction gain is below 1.25 dB.
-fn too_weak(c: u64, d: u64, t: u64) -> bool
-    requires { c ≤ 2 ^ 36 }
-    ensures { result ≡ ltb (pitch_gate * (c * c)) (d * t) }
-{
-    wide::less(
-        wide::times(wide::product(c, c), tables::PITCH_GATE),
-        wide::product(d, t),
-    )
-}
-
-// c/d in 32768ths, at most 32767.
-fn gain_q15(c: u64, d: u64) -> u64
-    requires { c ≤ 2 ^ 36 }
-    ensures value { result ≡ gain c d }
-    ensures upper_bound { result ≤ 32767 }
-{
-    if d <= c { 32767 } else { c * 32768 / d }
-}
-
 fn ltp_gamma_q15(rate: Rate) -> u64
     ensures value { result ≡ gamma rate }
     ensures upper_bound { result ≤ 8192 }
@@ -47,21 +27,36 @@ fn ltp_gamma_q15(rate: Rate) -> u64
     }
 }
 
-fn weight_q15(rate: Rate, c: u64, d: u64) -> u32
-    requires { c ≤ 2 ^ 36 }
-    ensures value { result ≡ weight rate c d }
-    ensures upper_bound { result ≤ 8192 }
-{
-    let g = gain_q15(c, d);
-    let w = ltp_gamma_q15(rate);
-    (g * w / 32768) as u32
+// The correlation and the energy of a chosen lag.
+#[derive(Clone, Copy)]
+struct LagSums {
+    c: u64,
+    d: u64,
+    ghost small: { c ≤ 2 ^ 36 },
 }
 
-fn subframe(x: &[i16; 386], p: usize) -> [i32; 60]
-    requires { p ≤ 326 }
-    ensures { result ≡ unchanged x.now p }
-{
-    std::array::from_fn(|n| i32::from(x[p + n]))
+impl LagSums {
+    // Whether 4 c² is less than d t: the prediction gain is below 1.25 dB.
+    fn too_weak(self, t: u64) -> bool
+        ensures { result ≡ ltb (pitch_gate * (self.c * self.c)) (self.d * t) }
+    {
+        wide::less(wide::square_times(self.c, tables::PITCH_GATE), wide::product(self.d, t))
+    }
+
+    // c/d in 32768ths, at most 32767.
+    fn gain_q15(self) -> u64
+        ensures value { result ≡ gain self.c self.d }
+        ensures upper_bound { result ≤ 32767 }
+    {
+        if self.d <= self.c { 32767 } else { self.c * 32768 / self.d }
+    }
+
+    fn weight_q15(self, rate: Rate) -> u32
+        ensures value { result ≡ weight rate self.c self.d }
+        ensures upper_bound { result ≤ 8192 }
+    {
+        (self.gain_q15() * ltp_gamma_q15(rate) / 32768) as u32
+    }
 }
 
 fn mixed_sample(w: u32, s: i16, y: i16) -> i32
@@ -106,11 +101,12 @@ struct Mixed {
 }
 
 impl Mixed {
-    fn new(x: &[i16; 386], p: usize, q: usize, w: u32) -> Mixed
-        requires p_bound { (p ≤ 326) × (q ≤ 326) }
+    fn new(x: &[i16; 386], s: Subframe, q: usize, w: u32) -> Mixed
+        requires q_bound { q ≤ 326 }
         requires w_bound { w ≤ 8192 }
-        ensures { result.samples ≡ mixed x.now p q w }
+        ensures { result.samples ≡ mixed x.now (subframe_place s) q w }
     {
+        let p = excitation::subframe_place(s);
         // A loop: of the items of `array::from_fn` the proof knew the values and not their bound.
         let mut samples = [0i32; 60];
         for n in 0..tables::SUBFRAME_SIZE {
@@ -148,28 +144,28 @@ impl Mixed {
     }
 }
 
-// With the chosen lag, for a subframe of the energy t.
-#[tactic(auto, unfolding(crate::specs::Pitch::applied))]
-fn applied_choice(x: &[i16; 386], rate: Rate, p: usize, t: u64, k: Choice) -> [i32; 60]
-    requires p_bound { p ≤ 326 }
-    requires small { Small k.best }
-    requires inside { Inside k.to p k.best }
-    ensures { result ≡ applied x.now rate p t (Some k) }
-{
-    let best = k.best;
-    if too_weak(best.c, best.d, t) {
-        return subframe(x, p);
-    }
-    let q = lags::window_place(k.to, p as u16, best.lag as u16);
-    let w = weight_q15(rate, best.c, best.d);
-    Mixed::new(x, p, q, w).levelled(t)
-}
-
 // The subframe as it is.
 pub fn plain_subframe(signal: &[i16; 386], s: Subframe) -> [i32; 60]
     ensures { result ≡ unchanged signal.now (subframe_place s) }
 {
-    subframe(signal, excitation::subframe_place(s))
+    let p = excitation::subframe_place(s);
+    std::array::from_fn(|n| i32::from(signal[p + n]))
+}
+
+// With the chosen lag, for a subframe of the energy t.
+#[tactic(auto, unfolding(crate::specs::Pitch::applied))]
+fn applied_choice(x: &[i16; 386], rate: Rate, s: Subframe, t: u64, k: Choice) -> [i32; 60]
+    requires small { Small k.best }
+    requires inside { Inside k.to (subframe_place s) k.best }
+    ensures { result ≡ applied x.now rate (subframe_place s) t (Some k) }
+{
+    let sums = LagSums { c: k.best.c, d: k.best.d };
+    if sums.too_weak(t) {
+        return plain_subframe(x, s);
+    }
+    let p = excitation::subframe_place(s);
+    let q = lags::window_place(k.to, p as u16, k.best.lag as u16);
+    Mixed::new(x, s, q, sums.weight_q15(rate)).levelled(t)
 }
 
 // A subframe of the frame's excitation, strengthened by what a pitch lag before or after it is like it.
@@ -177,13 +173,12 @@ pub fn plain_subframe(signal: &[i16; 386], s: Subframe) -> [i32; 60]
 pub fn pitch_postfilter(signal: &[i16; 386], s: Subframe, lag: i32, rate: Rate) -> [i32; 60]
     ensures { result ≡ postfiltered signal.now rate (subframe_place s) (limited_lag lag) }
 {
-    let p = excitation::subframe_place(s);
-    let t = correlation::energy_from(signal, p, SUBFRAME);
+    let t = correlation::energy_from(signal, excitation::subframe_place(s), SUBFRAME);
     if t == 0 {
-        return subframe(signal, p);
+        return plain_subframe(signal, s);
     }
     match lags::chosen_lag(signal, s, lag) {
-        Some(k) => applied_choice(signal, rate, p, t, k),
-        None => subframe(signal, p),
+        Some(k) => applied_choice(signal, rate, s, t, k),
+        None => plain_subframe(signal, s),
     }
 }

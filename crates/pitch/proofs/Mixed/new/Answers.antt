@@ -1,4 +1,4 @@
-use Rattle.std.proofs.Common.{refl, rules, w32}
+use Rattle.std.proofs.Common.{ℕ, refl, ap, ◌∙◌, rules, w32}
 use Rattle.integers.specs.Bound.{all_within-zero, all_within_set}
 use Rattle.integers.specs.Expression.{is-mag, within-is}
 use Rattle.integers.specs.Fill.{fills_start, fills_next, fills_end}
@@ -16,4 +16,4 @@ loop-n-preserved c = record {
 
 pub returns : goal.returns
 unfolding mixed
-returns c = fills_end c.loop-n.invariant.fills c.loop-n-test.false
+returns c = fills_end c.loop-n.invariant.fills c.loop-n-test.false ∙ ap (λ (p : ℕ). mixed c.args.x.now p c.args.q c.args.w) c.subframe_place-p.ensures

@@ -1,6 +1,6 @@
 use Rattle.std.proofs.Common.{pos, rules}
 use Rattle.integers.specs.FromFn.{from_fn_is}
-use Rattle.pitch.proofs.subframe.Goals as goal
+use Rattle.pitch.proofs.plain_subframe.Goals as goal
 
 pub returns : goal.returns
 returns c = from_fn_is _ _ _ _ (λ i y q lt k. search rules) (pos 0) c.from_fn.ensures.items
