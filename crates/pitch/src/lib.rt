@@ -40,7 +40,10 @@ impl LagSums {
     fn too_weak(self, t: u64) -> bool
         ensures { result ≡ ltb (pitch_gate * (self.c * self.c)) (self.d * t) }
     {
-        wide::less(wide::square_times(self.c, tables::PITCH_GATE), wide::product(self.d, t))
+        wide::less(
+            wide::square_times(self.c, tables::PITCH_GATE),
+            wide::product(self.d, t),
+        )
     }
 
     // c/d in 32768ths, at most 32767.
@@ -48,7 +51,11 @@ impl LagSums {
         ensures value { result ≡ gain self.c self.d }
         ensures upper_bound { result ≤ 32767 }
     {
-        if self.d <= self.c { 32767 } else { self.c * 32768 / self.d }
+        if self.d <= self.c {
+            32767
+        } else {
+            self.c * 32768 / self.d
+        }
     }
 
     fn weight_q15(self, rate: Rate) -> u32
@@ -159,7 +166,10 @@ fn applied_choice(x: &[i16; 386], rate: Rate, s: Subframe, t: u64, k: Choice) ->
     requires inside { Inside k.to (subframe_place s) k.best }
     ensures { result ≡ applied x.now rate (subframe_place s) t (Some k) }
 {
-    let sums = LagSums { c: k.best.c, d: k.best.d };
+    let sums = LagSums {
+        c: k.best.c,
+        d: k.best.d,
+    };
     if sums.too_weak(t) {
         return plain_subframe(x, s);
     }

@@ -35,7 +35,10 @@ fn lag_rank(c: u64, e: u64, t: u64) -> Wide
     requires { c ≤ 2 ^ 37 }
     ensures { value result ≡ c * c * voicing_rank_one / (e * t) }
 {
-    quotient::divide(wide::square_times(c, tables::VOICING_RANK_ONE), wide::product(e, t))
+    quotient::divide(
+        wide::square_times(c, tables::VOICING_RANK_ONE),
+        wide::product(e, t),
+    )
 }
 
 // Not one function with pitch's gate: each is one comparison over `wide`, of a factor, a bound and an order of its own.
@@ -43,7 +46,10 @@ fn passes_gate(c: u64, e: u64, t: u64) -> bool
     requires { c ≤ 2 ^ 37 }
     ensures { result ≡ leb (e * t) (voicing_gate * (c * c)) }
 {
-    !wide::less(wide::square_times(c, tables::VOICING_GATE), wide::product(e, t))
+    !wide::less(
+        wide::square_times(c, tables::VOICING_GATE),
+        wide::product(e, t),
+    )
 }
 
 // A lag with its sums.
