@@ -2,7 +2,7 @@
 // state, as in the Rust's QSynthesis (qdec.rs), and 16 in a frame.
 #![tactic(auto)]
 
-ghost use Rattle.std.specs.Prelude.{◌≡◌, length};
+ghost use Rattle.std.specs.Prelude.{◌≡◌};
 ghost use Rattle.widths.specs.Widths.{history_after, narrowed};
 
 // N values in 16 bits: those of `xs`, then zeros.
@@ -16,14 +16,6 @@ fn narrow<const N: usize>(xs: &[i32]) -> [i16; N]
     })
 }
 
-// N values in 32 bits.
-fn widen<const N: usize>(xs: &[i16]) -> [i32; N]
-    requires { length xs.now ≡ N }
-    ensures { result ≡ xs.now }
-{
-    std::array::from_fn(|i| i32::from(xs[i]))
-}
-
 // The signal of a frame before its excitation, in 16 bits.
 pub fn frame_signal(exc_hist: [i32; 146]) -> [i16; 386]
     ensures { result ≡ narrowed exc_hist 386 }
@@ -35,7 +27,7 @@ pub fn frame_signal(exc_hist: [i32; 146]) -> [i16; 386]
 pub fn history_after(signal: &[i16; 386]) -> [i32; 146]
     ensures { result ≡ history_after signal.now }
 {
-    widen(&signal[tables::FRAME_SIZE_SAMPLES..])
+    std::array::from_fn(|i| i32::from(signal[tables::FRAME_SIZE_SAMPLES + i]))
 }
 
 // The synthesis memory in 16 bits, and back.
@@ -48,5 +40,5 @@ pub fn narrow_memory(syn_mem: [i32; 10]) -> [i16; 10]
 pub fn widen_memory(mem: [i16; 10]) -> [i32; 10]
     ensures { result ≡ mem }
 {
-    widen(&mem)
+    mem.map(i32::from)
 }
