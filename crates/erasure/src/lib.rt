@@ -14,11 +14,13 @@ fn replayed_subframe(signal: &[i16; 386], s: Subframe, lag: u8, gain: i16) -> [i
     let l = adaptive::limited_lag(i32::from(lag));
     let from = excitation::subframe_place(s) - l;
     let mut out = [0i16; 60];
-    // Counted on, and not read at n % l: a remainder is a division, sixty of them a subframe.
-    let mut m = 0;
-    for sample in &mut out {
-        *sample = basicop::mult(signal[from + m], gain);
-        m = if m + 1 < l { m + 1 } else { 0 };
+    // By index: in a loop over a zip of `iter_mut` with `cycle` the check has no name for `out`.
+    for n in 0..tables::SUBFRAME_SIZE {
+        out[n] = if n < l {
+            basicop::mult(signal[from + n], gain)
+        } else {
+            out[n - l]
+        };
     }
     out
 }

@@ -1,8 +1,7 @@
-use Rattle.std.proofs.Common.{◌≡◌, ◌+◌, ◌%◌}
+use Rattle.std.proofs.Common.{◌+◌, ◌%◌}
 use Rattle.integers.specs.Base.{Fills, entry}
 use Rattle.basicop.specs.Operators.{mult16}
 use Rattle.erasure.proofs.replayed_subframe.Given as goal
 
-abbrev pub invariant-loop-sample : goal.invariant-loop-sample
-invariant-loop-sample l =
-    (l.m ≡ l.sample-index % l.l) × Fills (λ k. mult16 (entry l.signal (l.from + k % l.l)) l.fn.gain) 60 l.sample-items l.sample-index
+abbrev pub invariant-loop-n : goal.invariant-loop-n
+invariant-loop-n l = Fills (λ k. mult16 (entry l.signal (l.from + k % l.l)) l.fn.gain) 60 l.out l.n
