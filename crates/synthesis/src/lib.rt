@@ -13,7 +13,7 @@ use filters::SubframeOut;
 fn widened(mem: [i16; 10]) -> [i64; 10]
     ensures { result ≡ mem }
 {
-    std::array::from_fn(|j| i64::from(mem[j]))
+    mem.map(i64::from)
 }
 
 // The sum of ten coefficients times ten past samples.
@@ -21,6 +21,7 @@ fn predicted(a: [i16; 10], mem: [i64; 10]) -> i64
     requires { AllFit w16 mem }
     ensures { result ≡ prediction a mem }
 {
+    // A loop: of std's `sum` of signed numbers the proof knows no bound.
     let mut acc = 0;
     for j in 0..tables::LPC_ORDER {
         acc += i64::from(a[j]) * mem[j];
@@ -54,7 +55,8 @@ fn rounded_sample(acc: i64) -> i16
     filters::limited_sample((acc + 4096) >> 13)
 }
 
-// One sample, of an input in 8192ths.
+// One sample, of an input in 8192ths. Its bound is no plainer as that of a type of sixty inputs: it would stand in as many places,
+// and the type would have two makers.
 fn sample(a: [i16; 10], x: i64, mem: [i64; 10]) -> i16
     requires within { Within (2 ^ 44) x }
     requires all_fit { AllFit w16 mem }

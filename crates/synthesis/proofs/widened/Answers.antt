@@ -1,10 +1,10 @@
-use Rattle.std.proofs.Common.{rules, pos, arith, ◌∙◌}
-use Rattle.integers.specs.Base.{entry}
-use Rattle.integers.specs.Fill.{entries_all}
-use Rattle.integers.specs.FromFn.{from_fn_is}
+use Rattle.std.proofs.Common.{rules, ◌≡◌, length, pos, sym, ◌∙◌, subst, ◌<◌}
+use Rattle.std.proofs.lemmas.List.{ext_get_or}
 use Rattle.synthesis.proofs.widened.Goals as goal
 
 pub returns : goal.returns
 returns c =
-    from_fn_is _ _ (entry c.args.mem) _ (λ j y q lt k. search rules) (pos 0) c.from_fn.ensures.items
-    ∙ entries_all (pos 0) c.args.mem 10 (omega (arith, c.well_formed.0.1.0.1))
+    let m = c.map.ensures.items in
+    let long : length c.args.mem ≡ 10 = search rules in
+    ext_get_or (pos 0) c.map.result c.args.mem (m.long ∙ sym long)
+    (λ i lt. let w = m.at i (pos 0) (pos 0) (subst (λ n. i < n) m.long lt) in search rules)
