@@ -37,7 +37,8 @@ fn earlier(p: &[i64; 11], i: usize, d: usize) -> i64
     if i < d { 0 } else { p[i - d] }
 }
 
-// A coefficient after one more factor, from x at its own place, y one before and z two before.
+// A coefficient after one more factor, from x at its own place, y one before and z two before. The bound is that of all five
+// factors (see `rounded_q13`).
 fn term(c: i16, x: i64, y: i64, z: i64) -> i64
     requires within { Within (2 ^ 37) x }
     requires within_2 { Within (2 ^ 37) y }
@@ -62,6 +63,7 @@ fn expanded(lsp: [i16; 10], first: usize) -> [i64; 11]
 {
     let mut p = [0i64; 11];
     p[0] = tables::LPC_ONE_Q24;
+    // By index: a chain of `skip` and `step_by` needs the bound of `first` as well.
     for k in 0..tables::LPC_FACTORS {
         p = times_factor(p, cos_q14(lsp[2 * k + first]));
     }
