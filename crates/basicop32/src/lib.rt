@@ -4,6 +4,7 @@
 ghost use Rattle.std.specs.Prelude.{◌≡◌};
 ghost use Rattle.basicop32.specs.Operators32.{word32, add32, mult32, mac32, high16, rounded16};
 
+// No plainer as one function with `saturate` and `limited_sample`: each is a line of its own widths, under the Rust's name.
 pub fn sat32(x: i64) -> i32
     ensures { result ≡ word32 x }
 {
