@@ -1,7 +1,9 @@
 -- The loop of `digit_pairs`: what holds after i pairs, and where it ends.
-use Rattle.std.specs.Prelude.{◌≡◌, Bool, true, false, cond, ◌&&◌, List, [], ◌∷◌, ◌++◌, ℕ, zero, suc, ◌+◌, ◌*◌, ◌/◌, ◌%◌, ◌≤◌, ◌<◌, eqb, leb, length, get_or, Some, None}
+use Rattle.std.specs.Prelude.{◌≡◌, Bool, true, false, cond, ◌&&◌, List, [], ◌∷◌, ◌++◌, ℕ, zero, suc, ◌+◌, ◌*◌, ◌/◌, ◌%◌, ◌≤◌, ◌<◌, eqb, leb, length, get_or, drop, Option, Some, None}
+use Rattle.std.specs.Simd.{first_chunks}
 use Rattle.std.proofs.Common.{refl, sym, ap, ◌∙◌, arith, eq-eqb, le-leb, inl, inr}
 use Rattle.std.proofs.lemmas.Bool.{lt-leb}
+use Rattle.std.proofs.lemmas.List.{get_or-drop, get_or-take}
 use borrow.Author.Tests.{ne_eqb}
 use native.Mathlib.Numerals.{add-one}
 use Rattle.integers.specs.Base.{tabulate}
@@ -12,6 +14,27 @@ use Rattle.digits.specs.Digits.{is_digit, digit_value, digit_of, are_digits, has
 and_false : (t : Bool) → (t && false) ≡ false
 and_false true = refl
 and_false false = refl
+
+-- the two characters of pair i
+pair_is : (text : List ℕ) (n i : ℕ) → i < n → let p = get_or (first_chunks 2 n text) i [] in
+    (get_or p 0 0 ≡ get_or text (2 * i) 0) × (get_or p 1 0 ≡ get_or text (2 * i + 1) 0)
+pair_is text zero i h = absurd (let z : ⊥ = omega arith in z)
+pair_is text (suc n) zero h = (get_or-take 2 text 0 0 (omega arith), get_or-take 2 text 1 0 (omega arith))
+pair_is text (suc n) (suc i) h =
+    let p = pair_is (drop 2 text) n i (omega arith) in
+    let a : 2 + 2 * i ≡ 2 * suc i = omega arith in
+    let b : 2 + (2 * i + 1) ≡ 2 * suc i + 1 = omega arith in (
+      p.0 ∙ get_or-drop 2 text (2 * i) 0 ∙ ap (λ (m : ℕ). get_or text m 0) a,
+      p.1 ∙ get_or-drop 2 text (2 * i + 1) 0 ∙ ap (λ (m : ℕ). get_or text m 0) b,
+    )
+
+-- the digits read in pair i are those at its two places in the text
+module _ (text : List ℕ) {pairs : List (List ℕ)} {i : ℕ} (e : pairs ≡ first_chunks 2 (length text / 2) text) (h : i < length text / 2) where
+  pub first_digit : {d : Option ℕ} → d ≡ digit_of (get_or (get_or pairs i []) 0 0) → d ≡ digit_of (get_or text (2 * i) 0)
+  first_digit g = g ∙ (λ k. digit_of (get_or (get_or (e k) i []) 0 0)) ∙ ap digit_of (pair_is text (length text / 2) i h).0
+
+  pub second_digit : {d : Option ℕ} → d ≡ digit_of (get_or (get_or pairs i []) 1 0) → d ≡ digit_of (get_or text (2 * i + 1) 0)
+  second_digit g = g ∙ (λ k. digit_of (get_or (get_or (e k) i []) 1 0)) ∙ ap digit_of (pair_is text (length text / 2) i h).1
 
 pub record Reading (text bytes : List ℕ) (i : ℕ) : Type 0 where
   pub read : bytes ≡ tabulate (pair_value text) i

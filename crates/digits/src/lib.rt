@@ -14,12 +14,7 @@ fn digit(b: u8) -> Option<u8>
     ensures value { result ≡ digit_of b }
     ensures small { IfSome result (λ d. d < 16) }
 {
-    match b {
-        b'0'..=b'9' => Some(b - b'0'),
-        b'A'..=b'F' => Some(b - b'A' + 10),
-        b'a'..=b'f' => Some(b - b'a' + 10),
-        _ => None,
-    }
+    char::from(b).to_digit(16).map(|d| d as u8)
 }
 
 // The bytes of a text of digit pairs that is no longer than a line.
@@ -30,9 +25,9 @@ pub fn digit_pairs(text: &[u8]) -> Option<ArrayVec<u8, 549>>
         return None;
     }
     let mut bytes = ArrayVec::new();
-    for i in 0..text.len() / 2 {
-        let high = digit(text[2 * i])?;
-        let low = digit(text[2 * i + 1])?;
+    for [a, b] in text.as_chunks::<2>().0 {
+        let high = digit(*a)?;
+        let low = digit(*b)?;
         bytes.push(16 * high + low);
     }
     Some(bytes)
