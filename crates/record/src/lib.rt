@@ -60,7 +60,7 @@ fn own_lag(fields: &[u8], s: Subframe) -> i32
     }
 }
 
-fn pulse_count(s: Subframe) -> Count
+pub fn pulse_count(s: Subframe) -> Count
     ensures { result ≡ count s }
 {
     match s {

@@ -51,6 +51,11 @@ wrong_step_code f = ltb step_code_max (byte f step1_place) || ltb step_code_max 
 abbrev pub any_subframe : (Subframe → Bool) → Bool
 any_subframe t = t Zero || (t One || (t Two || t Three))
 
+-- the same of a test of what High alone has
+abbrev pub any_high : Rate → (Subframe → Bool) → Bool
+any_high High t = any_subframe t
+any_high Low t = false
+
 -- 8: a gain index is above 23
 abbrev pub wrong_gain_index : Rate → List ℕ → Bool
 wrong_gain_index rate f = any_subframe (λ s. ltb gain_index_max (gain_index_of rate f s))
@@ -60,16 +65,14 @@ abbrev pub wrong_flags_in : List ℕ → Subframe → Bool
 wrong_flags_in f s = ltb flags_max (flags f s) || (train f s && leb train_lag_limit (base_lag_of f s))
 
 abbrev pub wrong_flags : Rate → List ℕ → Bool
-wrong_flags High f = any_subframe (wrong_flags_in f)
-wrong_flags Low f = false
+wrong_flags rate f = any_high rate (wrong_flags_in f)
 
 -- 10, which High alone has: a sign byte has a bit at or above the subframe's pulse count
 abbrev pub wrong_signs_in : List ℕ → Subframe → Bool
 wrong_signs_in f s = leb (2 ^ pulses (count s)) (signs f s)
 
 abbrev pub wrong_signs : Rate → List ℕ → Bool
-wrong_signs High f = any_subframe (wrong_signs_in f)
-wrong_signs Low f = false
+wrong_signs rate f = any_high rate (wrong_signs_in f)
 
 -- ---- the first that applies
 

@@ -7,11 +7,12 @@ ghost use Rattle.excitation.specs.declared.Subframe.{Subframe};
 ghost use Rattle.reader.specs.Fields.{byte};
 ghost use Rattle.numbers.specs.declared.Refusal.TheVariants.{Kind};
 ghost use Rattle.record.specs.Record.{gain_index_of};
-ghost use Rattle.refusals.specs.Refusals.{record_bytes, any_subframe, wrong_lag_code, wrong_step_code, wrong_gain_index, wrong_flags_in, wrong_flags, wrong_signs_in, wrong_signs, found_received, found, number_found, kind_of, IsKind, record_number};
+ghost use Rattle.refusals.specs.Refusals.{record_bytes, any_subframe, any_high, wrong_lag_code, wrong_step_code, wrong_gain_index, wrong_flags_in, wrong_flags, wrong_signs_in, wrong_signs, found_received, found, number_found, kind_of, IsKind, record_number};
 
 use excitation::{Rate, Subframe};
 use layout::LspForm;
 use numbers::Refusal;
+use positions::Count;
 
 // What a record is of that is accepted.
 #[derive(Clone, Copy, PartialEq, Eq, Debug)]
@@ -90,6 +91,17 @@ fn in_any<F: Fn(Subframe) -> bool>(test: F) -> bool
     test(Subframe::Zero) || test(Subframe::One) || test(Subframe::Two) || test(Subframe::Three)
 }
 
+// The same of what High alone has.
+fn in_any_high<F: Fn(Subframe) -> bool>(rate: Rate, test: F) -> bool
+    requires { F.IsAlwaysCallable test }
+    ensures { (t : Subframe → Bool) → ((s : Subframe) (r : Bool) → F.post test s r → r ≡ t s) → result ≡ any_high rate t }
+{
+    match rate {
+        Rate::High => in_any(test),
+        Rate::Low => false,
+    }
+}
+
 fn gain_above(fields: &[u8], rate: Rate, s: Subframe) -> bool
     ensures { result ≡ ltb gain_index_max (gain_index_of rate fields.now s) }
 {
@@ -115,10 +127,7 @@ fn flags_wrong(fields: &[u8], s: Subframe) -> bool
 fn any_flags_wrong(fields: &[u8], rate: Rate) -> bool
     ensures { result ≡ wrong_flags rate fields.now }
 {
-    match rate {
-        Rate::High => in_any(|s| flags_wrong(fields, s)),
-        Rate::Low => false,
-    }
+    in_any_high(rate, |s| flags_wrong(fields, s))
 }
 
 fn signs_wrong(fields: &[u8], s: Subframe) -> bool
@@ -126,19 +135,16 @@ fn signs_wrong(fields: &[u8], s: Subframe) -> bool
 {
     let at = layout::block_place(Rate::High, s) + tables::SIGNS_PLACE;
     let signs = reader::byte_field(fields, at);
-    match s {
-        Subframe::Zero | Subframe::Two => signs >= tables::MPMLQ_SIGNS_LIMIT_SIX,
-        Subframe::One | Subframe::Three => signs >= tables::MPMLQ_SIGNS_LIMIT_FIVE,
+    match record::pulse_count(s) {
+        Count::Six => signs >= tables::MPMLQ_SIGNS_LIMIT_SIX,
+        Count::Five => signs >= tables::MPMLQ_SIGNS_LIMIT_FIVE,
     }
 }
 
 fn any_signs_wrong(fields: &[u8], rate: Rate) -> bool
     ensures { result ≡ wrong_signs rate fields.now }
 {
-    match rate {
-        Rate::High => in_any(|s| signs_wrong(fields, s)),
-        Rate::Low => false,
-    }
+    in_any_high(rate, |s| signs_wrong(fields, s))
 }
 
 // Numbers 6 to 10.
