@@ -25,7 +25,6 @@ use Rattle.lines.specs.Replies.{lent_samples, refusal_line, number_for, state_fo
 use Rattle.lines.specs.Stream.{Line, text_of, is_begun, blank, fresh_stream, next_line, end_text, ended_of, finished}
 use Rattle.lines.specs.Parts.{answer_number, answer_line, answered, reply_of, line_reply, progress_by}
 use Rattle.lines.specs.declared.LineRefusal.{LineRefusal}
-use Rattle.lines.specs.declared.LineRefusal.TheVariants.{NoRecord}
 use Rattle.lines.specs.declared.Stream.{Stream}
 use Rattle.lines.specs.declared.Progress.{Progress}
 use Rattle.lines.specs.declared.Reply.{Reply}
@@ -83,12 +82,6 @@ pub decoded_is : (s : State) (bytes : List ℕ) (a : Answer) (xs : List ℤ) (r 
     → a ≡ answer_of s bytes lent_samples → xs ≡ samples_of s bytes lent_samples → r ≡ answered a.verdict xs → record { state = a.state; answer = r } ≡ reply_of true bytes s
 unfolding reply_of state_for
 decoded_is s bytes a xs r ea ex er = λ i. record { state = (ea i).state; answer = (er ∙ (λ k. answered (ea k).verdict (ex k))) i }
-
--- ---- a line that is no record, whatever its bytes
-
-pub no_reply : (s : State) (bytes : List ℕ) (b : Bool) → b ≡ false → record { state = s; answer = Err NoRecord } ≡ reply_of b bytes s
-unfolding reply_of state_for
-no_reply s bytes b h = rw h
 
 -- ---- a text as digit pairs
 

@@ -1,7 +1,7 @@
 // Lines of hexadecimal text to lines of samples, piece by piece: the program `frames` but for its calls to read and write.
 #![tactic(auto)]
 
-ghost use Rattle.std.specs.Prelude.{◌≡◌, ◌==◌, true};
+ghost use Rattle.std.specs.Prelude.{◌≡◌, ◌==◌, true, false, List, ℕ};
 ghost use Rattle.std.specs.List.{position};
 ghost use Rattle.lines.specs.Stream.{pushed_all, blank, is_begun, fresh_stream, text_of, progress_of, finished};
 ghost use Rattle.lines.specs.Parts.{refusal_number, answer_number, answer_line, answered, reply_of, line_reply, text_reply, progress_by};
@@ -109,6 +109,7 @@ fn answer_text(answer: Result<[i16; 240], LineRefusal>) -> ArrayVec<u8, 961>
         Err(refusal) => {
             let n = u8::from(refusal);
             let mut text = ArrayVec::new();
+            // By hand: what `write!` promises holds where it succeeds, and nothing says that it does where there is room.
             let _fits = text.try_extend_from_slice(&[b'R', b'0' + n / 10, b'0' + n % 10, b'\n']);
             text
         }
@@ -136,16 +137,24 @@ fn decoded(given: State, bytes: &[u8]) -> Reply
     }
 }
 
+// The answer where there is no record, which changes no state.
+#[tactic(auto, unfolding(crate::specs::Parts::reply_of, crate::specs::Replies::state_for))]
+fn no_record(given: State) -> Reply
+    ensures { (bytes : List ℕ) → result ≡ reply_of false bytes given }
+{
+    Reply {
+        state: given,
+        answer: Err(LineRefusal::NoRecord),
+    }
+}
+
 // The answer to the text of a line.
 fn text_reply(given: State, text: &[u8]) -> Reply
     ensures { result ≡ text_reply text.now given }
 {
     match digits::digit_pairs(text) {
         Some(bytes) => decoded(given, &bytes),
-        None => Reply {
-            state: given,
-            answer: Err(LineRefusal::NoRecord),
-        },
+        None => no_record(given),
     }
 }
 
@@ -165,10 +174,7 @@ fn line_reply(given: State, line: Line) -> Reply
 {
     match line {
         Some(text) => text_reply(given, &text),
-        None => Reply {
-            state: given,
-            answer: Err(LineRefusal::NoRecord),
-        },
+        None => no_record(given),
     }
 }
 

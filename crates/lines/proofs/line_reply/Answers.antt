@@ -1,9 +1,8 @@
-use Rattle.std.proofs.Common.{[], List, ℕ, refl, sym, ap, ◌∙◌, false, length, arith}
+use Rattle.std.proofs.Common.{[], List, ℕ, sym, ap, ◌∙◌, length, arith}
 use Rattle.digits.specs.Digits.{bytes_of}
 use Rattle.lines.specs.Stream.{Line}
 use Rattle.lines.specs.Parts.{line_reply, text_reply}
 use Rattle.lines.proofs.Kept.{text_line}
-use Rattle.lines.proofs.Texts.{no_reply}
 use Rattle.lines.proofs.line_reply.Goals as goal
 
 pub returns-in-Some : goal.returns-in-Some
@@ -16,4 +15,4 @@ returns-in-Some c =
     ∙ ap (λ (l : Line). line_reply l s) (sym c.in-Some.is)
 
 pub returns-in-None : goal.returns-in-None
-returns-in-None c = no_reply c.args.given (bytes_of []) false refl ∙ ap (λ (l : Line). line_reply l c.args.given) (sym c.in-None.is)
+returns-in-None c = c.no_record.ensures (bytes_of []) ∙ ap (λ (l : Line). line_reply l c.args.given) (sym c.in-None.is)

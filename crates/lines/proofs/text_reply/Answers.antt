@@ -1,8 +1,7 @@
-use Rattle.std.proofs.Common.{rules, ◌≡◌, true, sym, ◌∙◌}
+use Rattle.std.proofs.Common.{rules, ◌≡◌, Bool, true, sym, ap, ◌∙◌}
 use Rattle.digits.specs.Digits.{bytes_of}
-use Rattle.lines.specs.Replies.{is_record_line}
 use Rattle.lines.specs.Parts.{reply_of}
-use Rattle.lines.proofs.Texts.{no_reply, pairs_some, pairs_none}
+use Rattle.lines.proofs.Texts.{pairs_some, pairs_none}
 use Rattle.lines.proofs.text_reply.Goals as goal
 
 pub returns-in-Some : goal.returns-in-Some
@@ -13,5 +12,5 @@ returns-in-Some c =
 
 pub returns-in-None : goal.returns-in-None
 returns-in-None c =
-    let text = c.args.text.now in
-    no_reply c.args.given (bytes_of text) (is_record_line text) (pairs_none text c.in-None.ensures)
+    let bytes = bytes_of c.args.text.now in
+    c.no_record.ensures bytes ∙ ap (λ (b : Bool). reply_of b bytes c.args.given) (sym (pairs_none c.args.text.now c.in-None.ensures))
