@@ -13,6 +13,14 @@ returns-then-text-gt-LINE_MAX c =
 pub loop-a-init : goal.loop-a-init
 loop-a-init c = reading_start c.args.text.now c.new-bytes.ensures
 
+pub loop-a-preserved : goal.loop-a-preserved
+loop-a-preserved c =
+    let p = c.as_chunks.ensures in
+    let lt : c.loop-a.a-index < length c.args.text.now / 2 = omega (arith, p.front_len) in
+    let high = first_digit c.args.text.now p.front lt (sym (c.in_ok-high.was) ∙ c.digit.ensures.value) in
+    let low = second_digit c.args.text.now p.front lt (sym (c.in_ok-low.was) ∙ c.digit-in-loop-a.ensures.value) in
+    reading_next c.loop-a.invariant high low c.push.ensures.items
+
 pub returns-in_err-high : goal.returns-in_err-high
 returns-in_err-high c =
     let p = c.as_chunks.ensures in
@@ -29,14 +37,6 @@ returns-in_err-low c =
 
 pub push-requires : goal.push-requires
 push-requires c = (omega arith, omega (arith, reading_length c.loop-a.invariant, c.as_chunks.ensures.front_len))
-
-pub loop-a-preserved : goal.loop-a-preserved
-loop-a-preserved c =
-    let p = c.as_chunks.ensures in
-    let lt : c.loop-a.a-index < length c.args.text.now / 2 = omega (arith, p.front_len) in
-    let high = first_digit c.args.text.now p.front lt (sym (c.in_ok-high.was) ∙ c.digit.ensures.value) in
-    let low = second_digit c.args.text.now p.front lt (sym (c.in_ok-low.was) ∙ c.digit-in-loop-a.ensures.value) in
-    reading_next c.loop-a.invariant high low c.push.ensures.items
 
 pub returns : goal.returns
 returns c = reading_end c.loop-a.invariant (omega arith) (omega arith) (omega (arith, c.as_chunks.ensures.front_len))
