@@ -54,6 +54,7 @@ fn sum_of_products(x: &[i16], a: usize, y: &[i16], b: usize, n: usize) -> i64
     joined(high, low)
 }
 
+// No plainer with parts for signals and places: past its end a signal counts as zeros, and no part begins there.
 pub fn correlate(x: &[i16], a: usize, y: &[i16], b: usize, n: u8) -> i64
     ensures value { result ≡ correlation x.now a y.now b n }
     ensures within { Within (n * 2 ^ 30) result }

@@ -39,7 +39,7 @@ fn close_number(text: &mut ArrayVec<u8, 275>, n: u8, count: u64)
     if count == 0 {
         return;
     }
-    // By hand: what `write!` promises holds where it succeeds, and nothing says that it does where there is room.
+    // By hand: `writeln!` was tried, and promises its bytes where it succeeds; nothing says that it does where there is room.
     let mut digits = [0; 20];
     let k = io::decimal(count, &mut digits);
     let _fits = text.try_extend_from_slice(&[b'N', b'0' + n / 10, b'0' + n % 10, b' ']);

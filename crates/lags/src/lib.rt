@@ -26,8 +26,8 @@ pub enum Direction {
     Backward,
 }
 
-// A lag with its correlation and its energy, both above 0. `Small` and `Inside` are no ghost fields: definitions build a Best of
-// any numbers, and would have to prove them.
+// A lag with its correlation and its energy, both above 0. `Small` and `Inside` are no plainer as ghost fields: definitions build a
+// Best of any numbers, and would have to prove them.
 #[derive(Clone, Copy, PartialEq, Eq, Debug)]
 pub struct Best {
     pub lag: usize,

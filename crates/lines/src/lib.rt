@@ -109,7 +109,7 @@ fn answer_text(answer: Result<[i16; 240], LineRefusal>) -> ArrayVec<u8, 961>
         Err(refusal) => {
             let n = u8::from(refusal);
             let mut text = ArrayVec::new();
-            // By hand: what `write!` promises holds where it succeeds, and nothing says that it does where there is room.
+            // By hand, as the closing lines are (crate `counts`): nothing says that `writeln!` succeeds where there is room.
             let _fits = text.try_extend_from_slice(&[b'R', b'0' + n / 10, b'0' + n % 10, b'\n']);
             text
         }

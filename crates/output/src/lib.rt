@@ -15,8 +15,8 @@ pub struct Filters {
     pub pf: Postfilter,
 }
 
-// The memory of formant, tilt and gain is lent to them for the subframe.
-// Not `filtered_subframe`: document 01 has the memory lent (docs/DECISIONS.md, "Forms by place").
+// The memory of formant, tilt and gain is lent to them for the subframe. Not by `filtered_subframe`, which says the same: document 01
+// has the memory lent (docs/DECISIONS.md, "Forms by place").
 fn postfilter_subframe(pf: Postfilter, a: [i16; 10], y: [i16; 60]) -> SubframeOut<Postfilter>
     ensures { (result.out ≡ filtered pf a y) × (result.mem ≡ postfilter_after pf a y) }
 {
@@ -43,8 +43,8 @@ fn output_subframe(part: &mut [i16], on: bool, a: [i16; 10], x: [i32; 60], f: Fi
     Filters { syn_mem, pf: z.mem }
 }
 
-// Each subframe writes only its sixty samples.
-// By place: once the chunks of chunks_exact_mut are back, a proof knows the slice's length and not its samples.
+// Each subframe writes only its sixty samples. By place: tried over `chunks_exact_mut`, and once its chunks are back a proof knows
+// the slice's length and not its samples.
 fn output_subframes(
     samples: &mut [i16],
     on: bool,

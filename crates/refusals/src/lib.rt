@@ -102,6 +102,7 @@ fn in_any_high<F: Fn(Subframe) -> bool>(rate: Rate, test: F) -> bool
     }
 }
 
+// No plainer with fields, rate and subframe in a struct, as in `record`.
 fn gain_above(fields: &[u8], rate: Rate, s: Subframe) -> bool
     ensures { result ≡ ltb gain_index_max (gain_index_of rate fields.now s) }
 {

@@ -4,7 +4,8 @@
 ghost use Rattle.std.specs.Prelude.{◌≡◌, ◌*◌, ◌%◌, ◌^◌, nat_lt};
 ghost use Rattle.wide.specs.Value.{value};
 
-// Two words and no u128: every product is made in `half_product`, of two halves of words.
+// Two words and no u128, as document 01 has them ("What changes shape"): every product is made in `half_product`, of two halves of
+// words.
 #[derive(Clone, Copy, PartialEq, Eq, PartialOrd, Ord, Debug)]
 pub struct Wide {
     pub hi: u64,
