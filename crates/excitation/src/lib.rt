@@ -65,7 +65,7 @@ pub fn push_excitation(mut signal: [i16; 386], s: Subframe, e: [i16; 60]) -> [i1
 pub fn tap_sum(taps: [i16; 5]) -> i32
     ensures { result ≡ tap_sum_of taps }
 {
-    // A loop: of std's `sum` of signed numbers the proof knows no bound.
+    // A loop: `sum` was tried, and of a sum of signed numbers the proof knows no bound.
     let mut sum: i32 = 0;
     for tap in &taps {
         sum += i32::from(*tap);

@@ -93,6 +93,7 @@ fn is_better(best: Option<Best>, c: u64, d: u64) -> bool
 }
 
 // The best of k + 1 lags from lo on, from that of k. The samples of the lag lo + k stand at q and have the energy d.
+// The bound of d stands beside its value: a law of energies was tried, and of a slice's items the check tells no bound here.
 fn offered(
     x: &[i16],
     to: Direction,

@@ -66,6 +66,7 @@ impl LagSums {
     }
 }
 
+// The bounds of a weight and a level are no plainer as types: each is made in one place.
 fn mixed_sample(w: u32, s: i16, y: i16) -> i32
     requires { w ≤ 8192 }
     ensures value { result ≡ mixed_sample w s y }
@@ -125,6 +126,7 @@ impl Mixed {
     fn energy(&self) -> u64
         ensures { pos result ≡ energy self.now.samples 0 60 }
     {
+        // A loop: `sum` was tried, and left its bound and its value to be proved from a fold.
         let mut e: u64 = 0;
         for z in &self.samples {
             e += square(*z);

@@ -21,7 +21,7 @@ fn predicted(a: [i16; 10], mem: [i64; 10]) -> i64
     requires { AllFit w16 mem }
     ensures { result ≡ prediction a mem }
 {
-    // A loop: of std's `sum` of signed numbers the proof knows no bound.
+    // A loop, as in `tap_sum` of `excitation`: of std's `sum` of signed numbers the proof knows no bound.
     let mut acc = 0;
     for j in 0..tables::LPC_ORDER {
         acc += i64::from(a[j]) * mem[j];
