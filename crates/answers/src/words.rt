@@ -20,7 +20,8 @@ impl<'a> Words<'a> {
         word.parse().context(format_args!("reading {word:?}"))
     }
 
-    // As many numbers as the list has.
+    // As many numbers as the list has. `calls` has the same over its own reader: a library of both would export what no contract can
+    // say (docs/DECISIONS.md). `array::try_from_fn` was tried, and asks for a proof of each call.
     pub(crate) fn list<T, const N: usize>(&mut self) -> anyhow::Result<[T; N]>
     where
         T: FromStr<Err = ParseIntError> + Copy + Default,

@@ -60,10 +60,10 @@ impl TryFrom<State> for Bounded {
     }
 }
 
-// Where that tail starts in a frame.
+// Where the tail of a frame starts that the classifier of erased frames reads.
 const TAIL: usize = tables::FRAME_SIZE_SAMPLES - tables::ERASURE_CLASSIFIER_HISTORY_LEN;
 
-// The tail that the classifier of erased frames reads (record_pcm_history).
+// That tail (record_pcm_history).
 fn pcm_history(samples: &[i16; 240]) -> [i16; 120]
     ensures { result ≡ drop 120 samples.now }
 {
@@ -122,6 +122,7 @@ fn received_signal(mut signal: [i16; 386], blocks: &[Block; 4]) -> [i16; 386]
     ensures { (b : Subframe → Block) → blocks.now ≡ each_subframe b → result ≡ in_turn (λ x k. received_to (b k) x k) signal }
 {
     for s in Subframe::ALL {
+        // By a name of its own, as in `erasure`.
         let next = received_subframe(signal, s, blocks);
         signal = next;
     }
@@ -170,9 +171,8 @@ fn finish_frame(
         erased_run: last.erased_run,
         postfilter: given.postfilter,
     };
-    let outcome = checked.outcome;
     Answer {
-        verdict: Ok(outcome),
+        verdict: Ok(checked.outcome),
         state: next,
     }
 }

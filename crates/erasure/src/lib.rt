@@ -51,6 +51,7 @@ fn replay_subframe(signal: [i16; 386], s: Subframe, lag: u8, gain: i16) -> [i16;
 fn replay_frame(mut signal: [i16; 386], lag: u8, gain: i16) -> [i16; 386]
     ensures { result ≡ in_turn (replay_to (limited_lag (pos lag)) gain) signal }
 {
+    // Not one function with the excitation of `decoder`: public, of a closure, it would ask that this can be called.
     for s in Subframe::ALL {
         let next = replay_subframe(signal, s, lag, gain);
         signal = next;

@@ -19,7 +19,7 @@ pub fn last_ten(y: &[i16; 60]) -> [i16; 10]
     std::array::from_fn(|j| y[59 - j])
 }
 
-// A number limited to 16 bits at once. No plainer as one function with `saturate` and `sat32`: each is a line of its own widths.
+// A number limited to 16 bits at once, with no limit to 32 before. No plainer as one function with `saturate` and `sat32`: each is a line of its own widths.
 pub fn limited_sample(q: i64) -> i16
     ensures { result ≡ word16 q }
 {

@@ -4,30 +4,9 @@
 ghost use Rattle.std.specs.Prelude.{◌≡◌};
 ghost use Rattle.isqrt.specs.Root.{root};
 
-// By hand, as the Rust has it: std's `isqrt` proves too, but takes 355 instructions where this takes 174 (numbers of 30 bits), and a
-// frame 1.3 per cent more.
-// A bit of the root in each turn, from the highest: `bit` is the square of the root's next bit, x is what the square of the
-// root so far leaves of v, and r is that root times twice its next bit.
+// By std's root: it is the only one that there is (`root_unique`).
 pub fn isqrt64(v: u64) -> u32
     ensures { result ≡ root v }
 {
-    if v == 0 {
-        return 0;
-    }
-    let mut x = v;
-    let mut r = 0;
-    // The highest power of four that is at most v.
-    let mut bit: u64 = 1 << (62 - v.leading_zeros() / 2 * 2);
-    // No counting loop: it goes down by bits from the highest that v has, and a `for` over all 32 would take more turns.
-    while bit != 0 {
-        let t = r + bit;
-        if t <= x {
-            x -= t;
-            r = r / 2 + bit;
-        } else {
-            r /= 2;
-        }
-        bit /= 4;
-    }
-    r as u32
+    v.isqrt() as u32
 }

@@ -44,7 +44,7 @@ fn output_subframe(part: &mut [i16], on: bool, a: [i16; 10], x: [i32; 60], f: Fi
 }
 
 // Each subframe writes only its sixty samples. By place: tried over `chunks_exact_mut`, and once its chunks are back a proof knows
-// the slice's length and not its samples.
+// the slice's length and not its samples. Four sets by value are document 01's form (docs/DECISIONS.md), and inputs stand beside them.
 fn output_subframes(
     samples: &mut [i16],
     on: bool,

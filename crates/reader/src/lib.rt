@@ -6,7 +6,7 @@ ghost use Rattle.std.specs.Prelude.{◌≡◌};
 ghost use Rattle.reader.specs.Fields.{byte, word, code};
 ghost use Rattle.reader.specs.Cursor.{StandsAt, ReadOn, FieldAt};
 
-// The record's bytes, and the place of the field that is read next.
+// The record's bytes, and the place of the field that is read next: the cursor that document 01 asks for.
 #[derive(Drop)]
 pub struct Reader<'a> {
     pub src: &'a [u8],

@@ -14,7 +14,8 @@ const HISTORY: u8 = tables::ERASURE_CLASSIFIER_HISTORY_LEN as u8;
 
 const CANDIDATES: u8 = tables::LAG_CANDIDATES as u8;
 
-// A lag that counts, with its rank and whether it passes the gate.
+// A lag that counts, with its rank and whether it passes the gate. No plainer as an `Option` of the lag: one that fails the gate is
+// ranked all the same.
 #[derive(Clone, Copy, PartialEq, Eq, Debug)]
 struct Ranked {
     lag: u8,
