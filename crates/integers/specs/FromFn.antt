@@ -1,6 +1,7 @@
--- What `array::from_fn` returns is a table of what its calls return.
-use Rattle.std.specs.Prelude.{◌≡◌, List, ℕ, zero, suc, ◌+◌, ◌<◌, ◌≤◌, get_or}
-use Rattle.std.specs.Array.{IsFromFnResult, IsFromFnResultFrom}
+-- What `array::from_fn` and an array's `map` return, of what their calls return.
+use Rattle.std.specs.Prelude.{◌≡◌, List, ℕ, zero, suc, ◌+◌, ◌<◌, ◌≤◌, length, get_or}
+use Rattle.std.specs.Array.{IsFromFnResult, IsFromFnResultFrom, IsMapOf}
+use Rattle.std.proofs.lemmas.List.{ext_get_or}
 use Rattle.std.proofs.Common.{sym, ◌∙◌, subst, arith, inl, inr}
 use denote.Param.Members.{Mut, Called}
 use Rattle.integers.specs.Base.{tabulate}
@@ -21,3 +22,9 @@ module _ {F B : Type 0} (g : Mut F (ℕ × Unit {0}) B) (f : F) (h : ℕ → B) 
   pub from_fn_is : {ys : List B} → (d : B) → IsFromFnResult g f ys N → ys ≡ tabulate h N
   from_fn_is {ys} d r =
       sym (entries_all d ys N r.long) ∙ tabulate_ext (λ i. get_or ys i d) h N (λ i lt. from_fn-at ys d N 0 i (omega arith) r.each (omega arith) lt)
+
+module _ {F A : Type 0} (g : Mut F (A × Unit {0}) A) (same : (x y : A) (p q : F) → Called g p (x, tt) y q → y ≡ x) where
+  -- calls of `map` that each return what they are given return the array
+  pub map_same : {f : F} {xs ys : List A} {N : ℕ} → (d : A) → length xs ≡ N → IsMapOf g f xs ys N → ys ≡ xs
+  map_same {xs = xs} {ys = ys} d e r =
+      ext_get_or d ys xs (r.long ∙ sym e) (λ i lt. let c = r.at i d d (subst (λ n. i < n) r.long lt) in same (get_or xs i d) (get_or ys i d) c.0 c.1 c.2)

@@ -1,10 +1,6 @@
-use Rattle.std.proofs.Common.{rules, ◌≡◌, length, pos, sym, ◌∙◌, subst, ◌<◌}
-use Rattle.std.proofs.lemmas.List.{ext_get_or}
+use Rattle.std.proofs.Common.{rules, pos}
+use Rattle.integers.specs.FromFn.{map_same}
 use Rattle.synthesis.proofs.widened.Goals as goal
 
 pub returns : goal.returns
-returns c =
-    let m = c.map.ensures.items in
-    let long : length c.args.mem ≡ 10 = search rules in
-    ext_get_or (pos 0) c.map.result c.args.mem (m.long ∙ sym long)
-    (λ i lt. let w = m.at i (pos 0) (pos 0) (subst (λ n. i < n) m.long lt) in search rules)
+returns c = map_same _ (λ x y p q k. search rules) (pos 0) (search rules) c.map.ensures.items
