@@ -5,7 +5,7 @@ ghost use Rattle.std.specs.Prelude.{◌≡◌};
 ghost use Rattle.isqrt.specs.Root.{root};
 
 // By hand, as the Rust has it: std's `isqrt` was tried and proves, and takes 355 instructions where this takes 174 (numbers of 30
-// bits). A frame takes 4 to 6 per cent longer with it (bench/run decode), and no kind of frame is to lose that much to a form.
+// bits). A frame takes 5 to 7 per cent longer with it (bench/run decode), erased ones too, which the Rust decodes faster already.
 // A bit of the root in each turn, from the highest: `bit` is the square of the root's next bit, x is what the square of the
 // root so far leaves of v, and r is that root times twice its next bit.
 pub fn isqrt64(v: u64) -> u32
