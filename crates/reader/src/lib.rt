@@ -29,7 +29,7 @@ impl<'a> Reader<'a> {
         self.src.get(at).copied().unwrap_or(0)
     }
 
-    // Apart from the other, as the fields below are.
+    // No plainer as one function with `read_byte`: they differ in their type and in how many bytes they take.
     pub fn read_word(&mut self) -> i16
         ensures { ReadOn word 2 self.old self.new result }
     {
