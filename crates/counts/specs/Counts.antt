@@ -1,5 +1,5 @@
 -- The counts of the numbers that were given (document 01, "Program `frames`"): N, the number in two digits, a space and the count in decimal, for each number seen, in ascending number (document 02, E3).
-use Rattle.std.specs.Prelude.{Bool, cond, ◌&&◌, List, [], ◌∷◌, ◌++◌, ◌≡◌, ℕ, zero, suc, ◌+◌, ◌-◌, ◌/◌, ◌%◌, ◌^◌, min, eqb, ltb, get_or, set}
+use Rattle.std.specs.Prelude.{Bool, cond, ◌&&◌, List, [], ◌∷◌, ◌++◌, ℕ, zero, suc, ◌+◌, ◌-◌, ◌/◌, ◌%◌, ◌^◌, min, eqb, ltb, get_or, set}
 use Rattle.tables.specs.Constants.{numbers_counted}
 
 -- how many of ns are n
@@ -17,7 +17,7 @@ tally tallies n = get_or tallies n 0
 
 -- the tallies, by number, with one more of n
 abbrev pub counted : List ℕ → ℕ → List ℕ
-counted tallies n = set tallies n (min (get_or tallies n 0 + 1) most)
+counted tallies n = set tallies n (min (tally tallies n + 1) most)
 
 -- the decimal digits of n, as few as hold it, of at most k
 unfoldable pub decimal_in : ℕ → ℕ → List ℕ
@@ -36,11 +36,6 @@ count_line n count = 78 ∷ (48 + n / 10) ∷ (48 + n % 10) ∷ 32 ∷ (decimal 
 unfoldable pub count_lines : (ℕ → ℕ) → List ℕ → List ℕ
 count_lines count [] = []
 count_lines count (n ∷ ns) = count_line n (count n) ++ count_lines count ns
-
--- the text has one line for each number from 1 on that was seen, in some order, and no other
-abbrev pub Closes : (ℕ → ℕ) → List ℕ → Type 0
-Closes count text =
-    (order : List ℕ) × ((n : ℕ) → how_many n order ≡ cond (ltb 0 n && ltb 0 (count n)) 1 0) × (text ≡ count_lines count order)
 
 -- a number from 1 on that was seen: 0 is counted for samples, and has no line
 abbrev pub is_seen : (ℕ → ℕ) → ℕ → Bool

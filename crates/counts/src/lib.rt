@@ -4,7 +4,7 @@
 ghost use Rattle.std.specs.Prelude.{◌≡◌, ◌++◌, [], cond, ltb, ◌≤◌, ◌<◌, ◌+◌, replicate};
 ghost use Rattle.tables.specs.Constants.{numbers_counted};
 ghost use Rattle.arrayvec.specs.ArrayVec.{array_vec_len};
-ghost use Rattle.counts.specs.Counts.{tally, counted, count_line, Closes, closing};
+ghost use Rattle.counts.specs.Counts.{tally, counted, count_line, closing};
 
 use arrayvec::ArrayVec;
 
@@ -49,8 +49,7 @@ fn close_number(text: &mut ArrayVec<u8, 275>, n: u8, count: u64)
 
 // A line for each number that was seen, in ascending number.
 pub fn closing_lines(tallies: [u64; 12]) -> ArrayVec<u8, 275>
-    ensures by_index { Closes (tally tallies) result.items }
-    ensures value { result.items ≡ closing (tally tallies) }
+    ensures { result.items ≡ closing (tally tallies) }
 {
     let mut text = ArrayVec::new();
     for n in 1..NUMBERS {
