@@ -1,24 +1,24 @@
 -- The program's calls give the whole output, its tallies are the counts, and these ascend: the theorems of specs/Whole.antt.
-use mathlib.Core.Path.{◌≡◌, refl, sym, ap, subst, ◌∙◌}
+use mathlib.Core.Path.{◌≡◌, refl, sym, ap, ◌∙◌}
 use mathlib.Core.Bool.{true, false}
 use mathlib.Core.List.{List, [], ◌∷◌, ◌++◌, append_assoc, append-nil}
 use mathlib.Core.Logic.{⊎_elim}
-use Prim.Native.Nat.{ℕ, ◌≤◌, ◌<◌, min}
+use Prim.Native.Nat.{ℕ, ◌≤◌, ◌<◌}
 use native.Mathlib.Omega.{arith}
 use lib.Dec.{eqb}
 use lib.ListN.{length, get_or, replicate, length-replicate, get_or-replicate, get_or-eq_default}
 use borrow.Author.Tests.{lt-ltb, le-ltb}
 use Rattle.integers.specs.Natural.{le-or-lt}
 use Rattle.tables.specs.Constants.{numbers_counted}
-use Rattle.counts.specs.Counts.{most, counted, Closes, tally, closing}
+use Rattle.counts.specs.Counts.{counted, tally, closing}
 use Rattle.counts.proofs.Ascending.{ascending_lines}
 use Rattle.state.specs.State.{fresh_state}
 use Rattle.state.specs.declared.State.{State}
 use Rattle.lines.specs.Replies.{line_number, line_state, line_text}
-use Rattle.whole.specs.Output.{lines_from, lines_of, text_from, numbers_from, answers_to, count_of, printed_count}
+use Rattle.whole.specs.Output.{lines_from, lines_of, text_from, numbers_from, answers_to, printed_count}
 use Rattle.lines.specs.Stream.{Line, pushed, blank, is_begun, text_of, fresh_stream, end_number, end_text, next_line, stream_after, answers_from, ended_of, finished}
 use Rattle.lines.specs.Parts.{answer_number, answer_line, line_reply, text_reply}
-use Rattle.whole.specs.Whole.{written, written_counts, pieces_text, joined, last_progress, OutputOfPieces, PrintedCounts, WholeOutput, OutputAscends}
+use Rattle.whole.specs.Whole.{written, written_counts, pieces_text, joined, last_progress, OutputOfPieces, PrintedCounts, OutputAscends}
 use Rattle.lines.specs.declared.Stream.{Stream}
 use Rattle.lines.specs.declared.Progress.{Progress}
 use Rattle.digits.proofs.Characters.{either}
@@ -208,25 +208,12 @@ whole input = comes input fresh_stream [] kept_fresh
 pub printed_counts : PrintedCounts
 printed_counts input n =
     let z = no_tally n in
-    ap (λ (ts : List ℕ). get_or ts n 0) ((whole input).tallies ∙ (λ i. counted_of (fresh_tallies i) (fresh_state_lem i) (lines_of input)))
+    ap (λ (ts : List ℕ). tally ts n) ((whole input).tallies ∙ (λ i. counted_of (fresh_tallies i) (fresh_state_lem i) (lines_of input)))
     ∙ tallied (lines_of input) (fresh_state true) (replicate numbers_counted 0) n (length-replicate {A = ℕ} numbers_counted 0) (omega (arith, z))
     ∙ omega (arith, z)
 
 pub output_of_pieces : OutputOfPieces
-output_of_pieces ps closing c =
-    let input = joined ps in
-    let p = pieces_stream_lem fresh_stream ps in
-    let last : last_progress ps ≡ finished (stream_after fresh_stream input) = ap finished p in
-    let answers-all : pieces_text fresh_stream ps ++ written (last_progress ps) ≡ answers_to input =
-    (λ i. pieces_text_lem fresh_stream ps i ++ written (last i)) ∙ (whole input).text ∙ ap (λ (q : State). text_from q (lines_of input)) fresh_state_lem in
-    let counts : (n : ℕ) → get_or (last_progress ps).stream.tallies n 0 ≡ min (count_of input n) most = λ n. ap (λ (d : Progress). get_or d.stream.tallies n 0) last ∙ printed_counts input n in (
-      closing,
-      sym (append_assoc (pieces_text fresh_stream ps) (written (last_progress ps)) closing) ∙ ap (λ (l : List ℕ). l ++ closing) answers-all,
-      subst (λ (f : ℕ → ℕ). Closes f closing) (λ i n. counts n i) c,
-    )
-
-pub whole-output : WholeOutput
-whole-output ps =
+output_of_pieces ps =
     let input = joined ps in
     let last : last_progress ps ≡ finished (stream_after fresh_stream input) = ap finished (pieces_stream_lem fresh_stream ps) in
     let tallies = (last_progress ps).stream.tallies in

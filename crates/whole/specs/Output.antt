@@ -1,8 +1,8 @@
--- The whole output as a definition of the whole input (document 01, "Program `frames`"): the lines of the input, the answer to each from the state that the one before left, and the counts of the numbers.
-use Rattle.std.specs.Prelude.{true, cond, List, [], ◌∷◌, ◌++◌, ◌≡◌, ℕ, min, eqb, ltb, length}
+-- The whole output as a definition of the whole input (document 01, "Program `frames`"): the lines of the input, the answer to each from the state that the one before left, and the counts of the numbers. It is one text for each input.
+use Rattle.std.specs.Prelude.{true, cond, List, [], ◌∷◌, ◌++◌, ℕ, min, eqb, ltb, length}
 use Rattle.state.specs.declared.State.{State}
 use Rattle.state.specs.State.{fresh_state}
-use Rattle.counts.specs.Counts.{how_many, most, Closes, closing}
+use Rattle.counts.specs.Counts.{how_many, most, closing}
 use Rattle.lines.specs.Replies.{line_number, line_state, line_text}
 
 -- ---- the lines of the input
@@ -37,10 +37,6 @@ answers_to input = text_from (fresh_state true) (lines_of input)
 -- how many of them are R lines of number n, and for number 0 how many are lines of samples
 abbrev pub count_of : List ℕ → ℕ → ℕ
 count_of input n = how_many n (numbers_from (fresh_state true) (lines_of input))
-
--- the output: the answers, then the counts, in an order left open, each in 64 bits
-abbrev pub IsOutput : List ℕ → List ℕ → Type 0
-IsOutput input output = (closing : List ℕ) × (output ≡ answers_to input ++ closing) × Closes (λ n. min (count_of input n) most) closing
 
 -- its count, which is kept in 64 bits
 abbrev pub printed_count : List ℕ → ℕ → ℕ

@@ -1,8 +1,8 @@
 -- The program's calls, piece by piece, give the whole output (document 01, "Program `frames`"), however the input is cut into pieces; the tallies that it answers are the counts; and these come in ascending number. proofs/Whole.antt proves all three, proofs/Values.antt the short case.
-use Rattle.std.specs.Prelude.{List, [], ◌∷◌, ◌++◌, ◌≡◌, ℕ, zero, suc, min, length, drop, get_or}
-use Rattle.counts.specs.Counts.{most, Closes, tally, closing}
+use Rattle.std.specs.Prelude.{List, [], ◌∷◌, ◌++◌, ◌≡◌, ℕ, zero, suc, length, drop}
+use Rattle.counts.specs.Counts.{tally, closing}
 use Rattle.counts.specs.Ascending.{AscendingLines}
-use Rattle.whole.specs.Output.{answers_to, count_of, IsOutput, printed_count, output}
+use Rattle.whole.specs.Output.{answers_to, printed_count, output}
 use Rattle.lines.specs.Stream.{fresh_stream, progress_of, finished, printed_tallies}
 use Rattle.lines.specs.declared.Stream.{Stream}
 use Rattle.lines.specs.declared.Progress.{Progress}
@@ -38,24 +38,18 @@ joined (p ∷ ps) = p ++ joined ps
 abbrev pub last_progress : List (List ℕ) → Progress
 last_progress ps = finished (pieces_stream fresh_stream ps)
 
--- the text of the pieces, of `finish` and of any closing of its tallies is the output for the input
-abbrev pub OutputOfPieces : Type 0
-OutputOfPieces =
-    (ps : List (List ℕ)) (closing : List ℕ) → Closes (λ n. get_or (last_progress ps).stream.tallies n 0) closing
-    → IsOutput (joined ps) (pieces_text fresh_stream ps ++ (written (last_progress ps) ++ closing))
-
--- the tallies that the program answers are the counts of that definition, each in 64 bits
-abbrev pub PrintedCounts : Type 0
-PrintedCounts = (input : List ℕ) (n : ℕ) → get_or (printed_tallies input) n 0 ≡ min (count_of input n) most
-
 -- what `closing_lines` leaves to be written of its tallies
 abbrev pub written_counts : List ℕ → List ℕ
 written_counts tallies = closing (tally tallies)
 
 -- the text of the pieces, of `finish` and of its tallies is the output for the input (document 02, E3)
-abbrev pub WholeOutput : Type 0
-WholeOutput =
+abbrev pub OutputOfPieces : Type 0
+OutputOfPieces =
     (ps : List (List ℕ)) → pieces_text fresh_stream ps ++ (written (last_progress ps) ++ written_counts (last_progress ps).stream.tallies) ≡ output (joined ps)
+
+-- the tallies that the program answers are the counts of that output
+abbrev pub PrintedCounts : Type 0
+PrintedCounts = (input : List ℕ) (n : ℕ) → tally (printed_tallies input) n ≡ printed_count input n
 
 -- after the answers come the counts in ascending number: each number that was given has one line, and no other has
 abbrev pub OutputAscends : Type 0
