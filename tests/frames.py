@@ -435,7 +435,10 @@ def refused_as(number, record):
 
 
 def frames_unended(rng):
-    return b"\n".join([text(voiced(rng)), text(voiced(rng)), b"00", b"0", b"09", text(voiced(rng))])
+    """Each number once, in descending order, and then a last line without a newline."""
+    first, second, last = voiced(rng), voiced(rng), voiced(rng)
+    refused = [refused_as(n, first) for n in range(NOT_A_RECORD, 2, -1)]
+    return b"\n".join([text(first), text(second), b"00", *refused, text(last)])
 
 
 PROGRAMS = {

@@ -1,11 +1,12 @@
 """Wrong readings of documents 01 and 02, each as one change to the second decoder (tests/mutations tries them).
 
-A reading has a name, a file, a fragment that stands there exactly once, what takes its place, and what it says. Readings that
-come to the same samples, states and outcomes as the right one are not listed.
+A reading has a name, a file, a fragment that stands there exactly once, what takes its place, and what it says; where it
+takes several changes, a list of fragments with their replacements. Readings that come to the same samples, states, outcomes
+and text as the right one are not listed.
 """
 import collections
 
-Reading = collections.namedtuple("Reading", "name file fragment replacement says")
+Reading = collections.namedtuple("Reading", "name file changes says")
 
 OPERATORS = [
     ("floor-truncates", "return x % by < 0 ? truncated - 1 : truncated;", "return truncated;", "every floor truncates"),
@@ -772,6 +773,10 @@ PLACES = [
     ("longest-1100", "LONGEST_LINE = 1098,", "LONGEST_LINE = 1100,", "1,100 characters are not too long"),
 ]
 
+# The loop over the numbers seen. The wrong orders of counts go up to 999, which no stored count exceeds.
+NUMBERS_UP = "for (int number = 1; number < NUMBERS; number++)"
+SEEN_UP = NUMBERS_UP + "\n        if (seen[number] > 0)\n"
+
 PROGRAM = [
     ("long-lines-cut", "LONGEST_LINE + 1 - line->length", "LONGEST_LINE - line->length", "an over-long line is cut"),
     (
@@ -831,6 +836,41 @@ PROGRAM = [
     ("r11-uncounted", "    seen[number]++;", "    if (number != NOT_A_RECORD) seen[number]++;", "R11 is not counted"),
     ("one-of-each", "    seen[number]++;", "    seen[number] = 1;", "a number seen is counted once"),
     ("unseen-printed", "if (seen[number] > 0)", "if (1)", "numbers not seen are printed with 0"),
+    ("counts-descend", NUMBERS_UP, "for (int number = NUMBERS - 1; number > 0; number--)", "counts in descending number"),
+    (
+        "counts-rarest-first",
+        SEEN_UP,
+        "for (unsigned long long count = 1; count < 1000; count++) " + NUMBERS_UP + " if (seen[number] == count)\n",
+        "counts by count, the least first",
+    ),
+    (
+        "counts-rarest-last",
+        SEEN_UP,
+        "for (unsigned long long count = 999; count > 0; count--) " + NUMBERS_UP + " if (seen[number] == count)\n",
+        "counts by count, the greatest first",
+    ),
+    (
+        "counts-by-text",
+        SEEN_UP,
+        # 1, 10, 100, 101 and so on: three digits, or fewer with zeros after them.
+        "for (unsigned long long k = 100; k < 1000; k++) for (int by = 100; by > 0; by /= 10) " + NUMBERS_UP + " if (seen[number] * by == k)\n",
+        "counts by the text of the count",
+    ),
+    (
+        "counts-as-met",
+        [
+            ("static unsigned long long seen[NUMBERS];", "static unsigned long long seen[NUMBERS];\nstatic int met[NUMBERS], turns;"),
+            ("    seen[number]++;", "    if (seen[number]++ == 0) met[turns++] = number;"),
+            (SEEN_UP, "for (int i = 0, number; i < turns && (number = met[i]); i++)\n"),
+        ],
+        "counts in the order in which the numbers were met",
+    ),
+    ("counts-twice", SEEN_UP, NUMBERS_UP + " for (int i = 0; i < 2 && seen[number] > 0; i++)\n", "a number has two lines"),
+    (
+        "samples-counted",
+        [("        print_samples(samples);\n", "        { seen[0]++; print_samples(samples); }\n"), (NUMBERS_UP, "for (int number = 0; number < NUMBERS; number++)")],
+        "lines with samples are counted as number 0",
+    ),
     ("count-of-two", "\"N%02d %llu\\n\"", "\"N%02d %02llu\\n\"", "counts of two digits"),
     ("n-unpadded", "\"N%02d %llu\\n\"", "\"N%d %llu\\n\"", "N without a leading 0"),
     ("r-unpadded", "\"R%02d\\n\"", "\"R%d\\n\"", "R without a leading 0"),
@@ -869,4 +909,12 @@ PROGRAM = [
 
 DECODER = OPERATORS + RECORD + NUMBERS + LSPS + INDEX + OUTCOME + PULSES + ADAPTIVE + PITCH + SYNTHESIS + FORMANT + ERASURE + FRAME
 FILES = {"decoder.c": DECODER, "tables.h": TABLES, "places.h": PLACES, "frames.c": PROGRAM}
-READINGS = [Reading(name, file, *rest) for file, rows in FILES.items() for name, *rest in rows]
+
+
+def reading(file, name, *row):
+    """A row of either form."""
+    *change, says = row
+    return Reading(name, file, change[0] if len(change) == 1 else [tuple(change)], says)
+
+
+READINGS = [reading(file, *row) for file, rows in FILES.items() for row in rows]

@@ -1,4 +1,4 @@
-// Run on lines of which the last, a record that is accepted, has no newline.
+// Run on lines whose numbers descend, and of which the last, a record that is accepted, has no newline.
 #![tactic(auto)]
 
 fn main(rt: HostRuntime) {

@@ -1,4 +1,4 @@
-//! Programs `frames` over the same calls: what they print is compared byte for byte, the closing lines in any order.
+//! Programs `frames` over the same calls: what they print is compared byte for byte.
 
 use std::path::Path;
 use std::sync::Mutex;
@@ -77,7 +77,7 @@ fn difference(call: &Call, got: &Output, wanted: &Output, names: [&str; 2]) -> O
     let answer = |output: &Output, i: usize| output.answers.get(i).map_or(vec![], |line| line.to_vec());
     let first = (0..call.lines).find(|&i| answer(got, i) != answer(wanted, i));
     let Some(i) = first else {
-        return Some(format!("closing lines\n{}", both(&got.closing.concat(), &wanted.closing.concat())));
+        return Some(format!("closing lines\n{}", both(got.closing, wanted.closing)));
     };
     let line = call.input.split(|&byte| byte == b'\n').nth(i).unwrap_or_default();
     let (a, b) = (answer(got, i), answer(wanted, i));

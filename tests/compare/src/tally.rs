@@ -13,23 +13,23 @@ pub struct Tally {
     pub numbers: [u64; NUMBERS],
 }
 
-/// The answers in their order and the closing lines sorted, for these may come in any order.
+/// The answers, a line each, and the text after them.
 pub struct Output<'a> {
     pub answers: Vec<&'a [u8]>,
-    pub closing: Vec<&'a [u8]>,
+    pub closing: &'a [u8],
 }
 
 impl<'a> Output<'a> {
-    /// As many answers as there were lines, where there are so many; the rest are closing lines. Text after the last newline
-    /// is a line of its own.
+    /// As many answers as there were lines, where there are so many; the rest are the closing lines. Text after the last
+    /// newline is a line of its own.
     pub fn read(text: &'a [u8], lines: usize) -> Self {
-        let mut answers: Vec<&[u8]> = text.split_inclusive(|&byte| byte == b'\n').collect();
-        let mut closing = answers.split_off(lines.min(answers.len()));
-        closing.sort();
+        let answers: Vec<&[u8]> = text.split_inclusive(|&byte| byte == b'\n').take(lines).collect();
+        let closing = &text[answers.iter().map(|line| line.len()).sum()..];
         Self { answers, closing }
     }
 
-    /// The answers counted. Fails where one has not the form of an answer, or where the closing lines are not these counts.
+    /// The answers counted. Fails where one has not the form of an answer, or where the closing lines are not these counts in
+    /// ascending number.
     pub fn tally(&self) -> Result<Tally, String> {
         let mut tally = Tally { calls: 1, ..Tally::default() };
         for (i, answer) in self.answers.iter().enumerate() {
@@ -40,9 +40,9 @@ impl<'a> Output<'a> {
             }
         }
         let seen = tally.numbers.iter().enumerate().filter(|(_, count)| **count > 0);
-        let wanted: Vec<Vec<u8>> = seen.map(|(n, count)| format!("N{n:02} {count}\n").into_bytes()).collect();
-        if self.closing != wanted {
-            return Err(format!("closing lines {:?}", self.closing.iter().map(|l| short(l)).collect::<Vec<_>>()));
+        let wanted: String = seen.map(|(n, count)| format!("N{n:02} {count}\n")).collect();
+        if self.closing != wanted.as_bytes() {
+            return Err(format!("closing lines {}", short(self.closing)));
         }
         Ok(tally)
     }
