@@ -1,4 +1,4 @@
-"""Wrong readings of documents 01 and 02, each as one change to the second decoder (tests/mutations tries them).
+"""Wrong readings of documents 01 and 02, each as a change to the second decoder (tests/mutations tries them).
 
 A reading has a name, a file, a fragment that stands there exactly once, what takes its place, and what it says; where it
 takes several changes, a list of fragments with their replacements. Readings that come to the same samples, states, outcomes

@@ -38,7 +38,7 @@ answers_to input = text_from (fresh_state true) (lines_of input)
 abbrev pub count_of : List ℕ → ℕ → ℕ
 count_of input n = how_many n (numbers_from (fresh_state true) (lines_of input))
 
--- its count, which is kept in 64 bits
+-- the count of number n as it is printed, which is kept in 64 bits
 abbrev pub printed_count : List ℕ → ℕ → ℕ
 printed_count input n = min (count_of input n) most
 
