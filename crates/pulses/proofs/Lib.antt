@@ -1,4 +1,4 @@
-pub mod Walks
+pub mod Places
 pub mod Sizes
 pub mod Repeats
 pub mod Placing

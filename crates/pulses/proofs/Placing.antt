@@ -17,10 +17,12 @@ use Rattle.integers.specs.Bound.{within-lit, all_within-tabulate}
 use Rattle.integers.specs.Sum.{sum_step, within-sum-to}
 use Rattle.integers.specs.Fill.{tabulate-at, tabulate_ext}
 use Rattle.positions.specs.Positions.{pulses, limit, slots, bits}
+use Rattle.positions.proofs.Order.{Ascends, ascends-none, ascends_first, ascends_cons, ascends-from}
+use Rattle.positions.proofs.Walks.{slots_length, slots-ascend}
 use Rattle.positions.proofs.Bits.{double, pulses-few}
 use Rattle.pulses.specs.Pulses.{size, pulse_place, signed_by, pulse, repeats, period, reaches, term, sample, vector}
 use Rattle.pulses.specs.declared.Description.{Description}
-use Rattle.pulses.proofs.Walks.{Ascends, ascends-from, slots_length, slots-ascend, pulse-place-below}
+use Rattle.pulses.proofs.Places.{pulse-place-below}
 use Rattle.pulses.proofs.Sizes.{abs-pulse, size-most}
 use Rattle.pulses.proofs.Repeats.{repeats-reaches}
 
@@ -36,12 +38,13 @@ bits-first [] = refl
 bits-first (p ∷ ps) = let e : p ≡ p - 0 = omega arith in λ t. 2 ^ e t + bits-first ps t
 
 bits-later : (i : ℕ) (ps : List ℕ) → Ascends (i + 1) ps → bits_from i ps ≡ 2 * bits_from (i + 1) ps
-unfolding bits_from Ascends
+unfolding bits_from
 bits-later i [] a = refl
 bits-later i (p ∷ ps) a =
-    let m : i + 1 ≤ p = a.0 in
+    let f = ascends_first (i + 1) p ps a in
+    let m : i + 1 ≤ p = f.0 in
     let e : p - i ≡ (p - (i + 1)) + 1 = omega arith in
-    rw e (omega (arith, double (p - (i + 1)), bits-later i ps (ascends-from (suc p) (i + 1) ps (omega arith) a.2)))
+    rw e (omega (arith, double (p - (i + 1)), bits-later i ps (ascends-from (suc p) (i + 1) ps (omega arith) f.2)))
 
 -- the first of them is i, or all are later
 record First (i : ℕ) (ps : List ℕ) : Type 0 where
@@ -50,12 +53,13 @@ record First (i : ℕ) (ps : List ℕ) : Type 0 where
   ascends : Ascends (i + 1) tail
 
 first-or-later : (i : ℕ) (ps : List ℕ) → Ascends i ps → First i ps ⊎ Ascends (i + 1) ps
-unfolding Ascends
-first-or-later i [] a = inr tt
-first-or-later i (p ∷ ps) a = ⊎_elim
-    (λ (q : i ≡ p). inl (record { tail = ps; is = ap (λ (k : ℕ). k ∷ ps) (sym q); ascends = ascends-from (suc p) (i + 1) ps (omega arith) a.2 }))
-    (λ (n : i < p). inr (omega arith, a.1, a.2))
-    (eq-or-lt_of_le a.0)
+first-or-later i [] a = inr (ascends-none (i + 1))
+first-or-later i (p ∷ ps) a =
+    let f = ascends_first i p ps a in
+    ⊎_elim
+    (λ (q : i ≡ p). inl (record { tail = ps; is = ap (λ (k : ℕ). k ∷ ps) (sym q); ascends = ascends-from (suc p) (i + 1) ps (omega arith) f.2 }))
+    (λ (n : i < p). inr (ascends_cons (i + 1) p ps (omega arith) f.1 f.2))
+    (eq-or-lt_of_le f.0)
 
 first_odd : (i : ℕ) (ps : List ℕ) (f : First i ps) → bits_from i ps ≡ 1 + 2 * bits_from (i + 1) f.tail
 unfolding bits_from
@@ -71,9 +75,8 @@ even-later i ps a e =
     ⊎_elim (λ (f : First i ps). absurd (e (omega (arith, first_odd i ps f)))) (λ (l : Ascends (i + 1) ps). l) (first-or-later i ps a)
 
 none_left : (i : ℕ) (ps : List ℕ) → 30 ≤ i → Ascends i ps → length ps ≡ 0
-unfolding Ascends
 none_left i [] h a = refl
-none_left i (p ∷ ps) h a = absurd (let m : i ≤ p = a.0 in let n : p < 30 = a.1 in let z : ⊥ = omega arith in z)
+none_left i (p ∷ ps) h a = absurd (let f = ascends_first i p ps a in let m : i ≤ p = f.0 in let n : p < 30 = f.1 in let z : ⊥ = omega arith in z)
 
 -- ---- the loop over the slots: before one, v has the first `passed` pulses, and the bits of found from there on are those of the other slots
 

@@ -17,10 +17,11 @@ use Rattle.tables.proofs.Rules.{gain_rule, gain_distinct}
 use Rattle.positions.specs.Positions.{pulses, limit, slots}
 use Rattle.positions.specs.declared.Count.{Count}
 use Rattle.positions.specs.declared.Count.TheVariants.{Five, Six}
+use Rattle.positions.proofs.Walks.{slots_length, slots-code}
 use Rattle.pulses.specs.Pulses.{size, pulse_place, signed_by, pulse, sample, vector}
 use Rattle.vectors.specs.Vectors.{WithSlots, SameGiven, SameRest, SameSigns, EqualVectors, AtMostOne}
 use Rattle.pulses.specs.declared.Description.{Description}
-use Rattle.pulses.proofs.Walks.{slots_length, slots-code, pulse-place-below, pulse-place_order}
+use Rattle.pulses.proofs.Places.{pulse-place-below, pulse-place_order}
 use Rattle.pulses.proofs.Sizes.{abs-pulse}
 use Rattle.vectors.proofs.Distinct.{sum_at, Row, rows_equal}
 use Rattle.vectors.proofs.Trains.{bare-same, sample-same}

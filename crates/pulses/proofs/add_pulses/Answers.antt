@@ -1,5 +1,5 @@
 use Rattle.std.proofs.Common.{◌-◌, ◌∙◌, arith}
-use Rattle.pulses.proofs.Walks.{grid_bit}
+use Rattle.pulses.proofs.Places.{grid_bit}
 use Rattle.pulses.proofs.Sizes.{size-within, amp-within, amp_is}
 use Rattle.pulses.proofs.Placing.{placing_start, placing_left, placing_within, placing_hit, placing_miss, placing_end}
 use Rattle.pulses.proofs.add_pulses.Goals as goal
