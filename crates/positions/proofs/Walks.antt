@@ -5,7 +5,6 @@ use mathlib.Core.List.{List, [], ◌∷◌}
 use Prim.Native.Nat.{ℕ, zero, suc, ◌-◌, ◌≤◌, ◌<◌}
 use native.Mathlib.Omega.{arith}
 use lib.ListN.{length}
-use borrow.Author.Tests.{eq-eqb, ne_eqb}
 use Rattle.integers.specs.Natural.{le-or-lt}
 use Rattle.tables.specs.Rules.{choose}
 use Rattle.positions.specs.Positions.{pulses, limit, walk, slots}
@@ -13,6 +12,7 @@ use Rattle.positions.specs.Packing.{rank}
 use Rattle.positions.specs.declared.Count.{Count}
 use Rattle.positions.specs.declared.Count.TheVariants.{Five, Six}
 use Rattle.positions.proofs.Steps.{walk_done, walk_hit, walk_miss}
+use Rattle.positions.proofs.Ranks.{rank-none, rank_here, rank_past}
 use Rattle.positions.proofs.Order.{Ascends, ascends-none, ascends_first, ascends_cons, ascends-from}
 
 -- ---- slots after reading: as many as wanted, ascending, and of the code that was read
@@ -22,29 +22,22 @@ record IsWalk (s r c : ℕ) (ps : List ℕ) : Type 0 where
   ascend : Ascends (30 - s) ps
   code : rank s ps ≡ c
 
-choose-none : (s : ℕ) → choose s 0 ≡ 1
+pub choose-none : (s : ℕ) → choose s 0 ≡ 1
 unfolding choose
 choose-none zero = refl
 choose-none (suc s) = refl
-
-rank-none : (s : ℕ) → rank s [] ≡ 0
-unfolding rank
-rank-none zero = refl
-rank-none (suc s) = refl
 
 is-walk_done : (s : ℕ) → IsWalk s 0 0 []
 is-walk_done s = record { many = refl; ascend = ascends-none (30 - s); code = rank-none s }
 
 is-walk_hit : (s r c : ℕ) (ps : List ℕ) → s < 30 → IsWalk s r c ps → IsWalk (suc s) (suc r) c ((30 - suc s) ∷ ps)
-unfolding rank
 is-walk_hit s r c ps h w = record {
   many = ap suc w.many;
   ascend = ascends_cons (30 - suc s) (30 - suc s) ps (omega arith) (omega arith) (ascends-from (30 - s) (suc (30 - suc s)) ps (omega arith) w.ascend);
-  code = rw (eq-eqb (30 - suc s) (30 - suc s) refl) w.code;
+  code = rank_here s (30 - suc s) ps refl ∙ w.code;
 }
 
 is-walk_miss : (s r c : ℕ) (ps : List ℕ) → s < 30 → choose s r ≤ c → IsWalk s (suc r) (c - choose s r) ps → IsWalk (suc s) (suc r) c ps
-unfolding rank
 is-walk_miss s r c [] h k w = absurd (omega (arith, w.many))
 is-walk_miss s r c (p ∷ ps) h k w =
     let later : 30 - s ≤ p = (ascends_first (30 - s) p ps w.ascend).0 in
@@ -52,7 +45,7 @@ is-walk_miss s r c (p ∷ ps) h k w =
     record {
       many = w.many;
       ascend = ascends-from (30 - s) (30 - suc s) (p ∷ ps) (omega arith) w.ascend;
-      code = rw (ne_eqb p (30 - suc s) (λ q. omega arith), e) (omega (arith, w.code));
+      code = rank_past s p ps (λ q. omega arith) ∙ rw e (omega (arith, w.code));
     }
 
 is-walk : (s r c : ℕ) → s ≤ 30 → c < choose s r → IsWalk s r c (walk s r c)
@@ -67,7 +60,7 @@ is-walk (suc s) (suc r) c h k = decided (is-walk s r c (omega arith)) (is-walk s
     decided p q (inl a) = rw (walk_miss s r c a) (is-walk_miss s r c (walk s (suc r) (c - choose s r)) h a (q (omega arith)))
 
 -- the limits are the numbers of ways to choose the slots
-limit_ways : (n : Count) → limit n ≡ choose 30 (pulses n)
+pub limit_ways : (n : Count) → limit n ≡ choose 30 (pulses n)
 unfolding choose
 limit_ways Five = refl
 limit_ways Six = refl

@@ -1,2 +1,3 @@
 pub mod Positions
 pub mod Packing
+pub mod Codes

@@ -18,8 +18,9 @@ use Rattle.positions.specs.Positions.{pulses, limit, slots}
 use Rattle.positions.specs.declared.Count.{Count}
 use Rattle.positions.specs.declared.Count.TheVariants.{Five, Six}
 use Rattle.positions.proofs.Walks.{slots_length, slots-code}
+use Rattle.positions.proofs.Codes.{one_code}
 use Rattle.pulses.specs.Pulses.{size, pulse_place, signed_by, pulse, sample, vector}
-use Rattle.vectors.specs.Vectors.{WithSlots, SameGiven, SameRest, SameSigns, EqualVectors, AtMostOne}
+use Rattle.vectors.specs.Vectors.{WithSlots, SameGiven, SameRest, SameSigns, EqualVectors, SlotsReached, Vectors, AtMostOne}
 use Rattle.pulses.specs.declared.Description.{Description}
 use Rattle.pulses.proofs.Places.{pulse-place-below, pulse-place_order}
 use Rattle.pulses.proofs.Sizes.{abs-pulse}
@@ -144,6 +145,16 @@ equal_vectors d e v w s = (
   λ same. same_rest v w s (λ j h. sym (entry-sample d j h) ∙ same j h ∙ entry-sample e j h),
   λ c j h. entry-sample d j h ∙ sample-same s c j ∙ sym (entry-sample e j h),
 )
+
+-- ---- each set of slots is reached: by its code
+
+slots_reached : SlotsReached
+slots_reached d a ps s =
+    let o = one_code d.count ps s in
+    (o.code, record { accepted = record { gain_index = a.gain_index; signs = a.signs; base_lag = a.base_lag }; below = o.read_as.below }, o.read_as.read)
+
+pub vectors : Vectors
+vectors = record { equal = equal_vectors; reached = slots_reached }
 
 pub at_most_one : AtMostOne
 at_most_one d e v w count train lag same =

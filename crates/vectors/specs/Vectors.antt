@@ -1,8 +1,9 @@
--- When a pulse description is accepted, and the theorem on equal vectors (demand 3; document 01, "Pulses"), which proofs/EqualVectors.antt proves.
-use Rattle.std.specs.Prelude.{◌≡◌, true, ◌↔◌, ℕ, ◌/◌, ◌%◌, ◌^◌, ◌≤◌, ◌<◌}
+-- When a pulse description is accepted, and the theorem on equal vectors (demand 3; document 01, "Pulses"; document 02, E4), which proofs/EqualVectors.antt proves.
+use Rattle.std.specs.Prelude.{◌≡◌, true, ◌↔◌, List, ℕ, ◌/◌, ◌%◌, ◌^◌, ◌≤◌, ◌<◌}
 use Rattle.integers.specs.Base.{entry}
 use Rattle.tables.specs.Constants.{subframe_size, pitch_min, train_lag_limit, gain_index_max}
-use Rattle.positions.specs.Positions.{pulses, limit}
+use Rattle.positions.specs.Positions.{pulses, limit, slots}
+use Rattle.positions.specs.Codes.{SlotsOf}
 use Rattle.pulses.specs.Pulses.{vector}
 use Rattle.pulses.specs.declared.Description.{Description}
 
@@ -41,6 +42,21 @@ abbrev pub EqualVectors : Type 0
 EqualVectors =
     (d e : Description) → WithSlots d → WithSlots e → SameGiven d e
     → ((j : ℕ) → j < subframe_size → entry (vector d) j ≡ entry (vector e) j) ↔ SameRest d e
+
+-- d with another code
+abbrev pub with_code : ℕ → Description → Description
+with_code c d = record { count = d.count; train = d.train; base_lag = d.base_lag; grid = d.grid; code = c; signs = d.signs; gain_index = d.gain_index }
+
+-- each set of slots is reached: with every accepted flag, lag, grid, signs and gain index, by a code below the limit, whose slots they are
+abbrev pub SlotsReached : Type 0
+SlotsReached =
+    (d : Description) → Accepted d → (ps : List ℕ) → SlotsOf d.count ps
+    → (c : ℕ) × WithSlots (with_code c d) × (slots d.count c ≡ ps)
+
+-- what is said about equal vectors: when they are equal, and that each set of slots is reached (`vectors`)
+pub record Vectors : Type 0 where
+  pub equal : EqualVectors
+  pub reached : SlotsReached
 
 -- of accepted descriptions with codes below the limit, with one count, flag and lag, no two have one vector, so that at most one has a given vector (`at_most_one`); all codes from the limit on have the vector of zeros
 abbrev pub AtMostOne : Type 0
