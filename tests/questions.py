@@ -4,7 +4,8 @@
 Operators of two operands: all pairs of edge values and a spread of others; l_mac a selection of them. Roots: at squares and
 beside them. Pairs of words: products, multiples, shifts, orders and quotients at edges and over a spread. LSPs: by classes of
 vectors, by the passes that stabilising them takes, by its outcome, and from an index at every row. Pulses: codes at their
-limits, at each change of the first slot and at each weight, and descriptions by lag, gain, signs and pulses that meet.
+limits, at each change of the first slot and at each weight, lists of slots that have a code and such as are turned away, and
+descriptions by lag, gain, signs and pulses that meet.
 Excitation, synthesis and postfilters: signals.py. Voicing and the noise word: voicing.py.
 
 With --counts it prints instead how many vectors of LSPs and how many indices each class has, with --codes every position code
@@ -397,6 +398,54 @@ def codes(rng):
             ask("fcbk_unpk_positions", rng.randrange(limit), n)
 
 
+# Lists of slots are asked about in a row of eight numbers, of which a count says how many are the list.
+ROW = 8
+# What takes a slot's place in a list: none is a slot, and some are one in fewer bits.
+NO_SLOTS = [SLOTS, SLOTS + 1, 2**31, 2**32 - 1, 2**32, 2**63 - 1, 2**63, 2**64 - 1]
+FEWER_BITS = [2**8, 2**16, 2**31, 2**32, 2**63]
+
+
+def ask_packed(slots, rest=SLOTS):
+    ask("fcbk_pack_positions", len(slots), *slots, *[rest] * (ROW - len(slots)))
+
+
+def disordered(p):
+    """Slots, each pair of neighbours of them equal or descending, and each of them none, in turn."""
+    for k in range(len(p) - 1):
+        before, after = p[:k], p[k + 2:]
+        yield before + [p[k], p[k]] + after
+        yield before + [p[k + 1], p[k + 1]] + after
+        yield before + [p[k + 1], p[k]] + after
+    for k, slot in enumerate(p):
+        for other in NO_SLOTS + [slot + more for more in FEWER_BITS]:
+            yield p[:k] + [other] + p[k + 1:]
+
+
+def packings(rng):
+    # What is no part of the list is not read.
+    for rest in (0, SLOTS - 1, SLOTS):
+        for n in CODE_LIMIT:
+            ask_packed(list(range(n)), rest)
+    ask_packed([0, 1, 2, 3, 4, SLOTS - 1])
+    for n in range(ROW + 1):
+        lists = [list(range(n)), list(range(1, n + 1)), list(range(SLOTS - n, SLOTS)), sorted(rng.sample(range(SLOTS), n))]
+        for p in lists:
+            ask_packed(p)
+            # Where the count is wrong too, it is 12.
+            for q in disordered(p):
+                if n in CODE_LIMIT or rng.randrange(8) == 0:
+                    ask_packed(q)
+        ask_packed([SLOTS - 1] * n)
+        ask_packed([2**64 - 1] * n)
+        ask_packed(list(range(n))[::-1])
+    for n in CODE_LIMIT:
+        for first in range(SLOTS + 1 - n):
+            ask_packed([first] + list(range(SLOTS + 1 - n, SLOTS)))
+            ask_packed(list(range(first, first + n)))
+        for _ in range(150):
+            ask_packed(sorted(rng.sample(range(SLOTS), n)))
+
+
 # Slots of which four stand one, two and three lags of 18 apart, so that their pulses add up.
 MEETING = {5: [0, 9, 18, 20, 27], 6: [0, 9, 18, 27, 28, 29]}
 
@@ -459,6 +508,7 @@ def main():
     lsps(random.Random(7231))
     indexed(random.Random(7231))
     codes(rng)
+    packings(random.Random(7231))
     descriptions(rng)
     signals.excitation(ask, rng)
     signals.synthesis(ask, rng)

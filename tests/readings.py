@@ -1,4 +1,4 @@
-"""Wrong readings of documents 01 and 02, each as a change to the second decoder (tests/mutations tries them).
+"""Wrong readings of documents 01 and 02, each as a change to the second decoder or the second packing (tests/mutations tries them).
 
 A reading has a name, a file, a fragment that stands there exactly once, what takes its place, and what it says; where it
 takes several changes, a list of fragments with their replacements. Readings that come to the same samples, states, outcomes
@@ -907,8 +907,66 @@ PROGRAM = [
     ),
 ]
 
+# What is printed of a code, and the two tests before it.
+CODE = "(long long)(choose(SLOTS, n) - 1 - sets_after(slots, n))"
+COUNT_TEST = "if (n != MOST_PULSES - 1 && n != MOST_PULSES)"
+COUNT_FIRST = COUNT_TEST + "\n        printf(\"%d\\n\", WRONG_COUNT);\n    else if (has_wrong_slot(slots, n))\n        printf(\"%d\\n\", WRONG_SLOT);"
+SLOT_FIRST = "if (has_wrong_slot(slots, n))\n        printf(\"%d\\n\", WRONG_SLOT);\n    else " + COUNT_TEST + "\n        printf(\"%d\\n\", WRONG_COUNT);"
+# A sum over the slots in place of the code.
+SUMMED = "/* Answers a list of slots. */\n"
+
+
+def summed(term):
+    """The code as a sum of this term over all slots, the k-th of which is s."""
+    own = "static int64_t own(const uint64_t *slots, int n) { int64_t sum = 0; for (int64_t k = 0; k < n; k++) { int64_t s = slots[k]; sum += TERM; } return sum; }\n"
+    return [(SUMMED, own.replace("TERM", term) + SUMMED), (CODE, "(long long)own(slots, n)")]
+
+
+PACKING = [
+    ("pack-bits", summed("1LL << s"), "the slots as bits"),
+    ("pack-from-last", summed("choose(s, k + 1)"), "combinations counted from the last slot"),
+    ("pack-slots-summed", summed("s"), "the sum of the slots"),
+    ("pack-weight-of-pulse", summed("choose(SLOTS - 1 - s, n - 1 - k)"), "the weights of the slots that have pulses"),
+    ("pack-weight-here-too", [(CODE, "(long long)(choose(SLOTS, n) - 1 - sets_after(slots, n) + own(slots, n))"), summed("choose(SLOTS - 1 - s, n - 1 - k)")[0]], "the weights of the slots that have pulses are added too"),
+    ("pack-next-row", "choose(SLOTS - 1 - (int64_t)slots[k], n - k)", "choose(SLOTS - 1 - (int64_t)slots[k], n - k - 1)", "the weights of the next row"),
+    ("pack-slot-counted", "choose(SLOTS - 1 - (int64_t)slots[k], n - k)", "choose(SLOTS - (int64_t)slots[k], n - k)", "a slot is later than itself"),
+    ("pack-descending", CODE, "(long long)sets_after(slots, n)", "codes from the last set down"),
+    ("pack-from-1", CODE, CODE.replace(" - 1", ""), "the first code is 1"),
+    ("pack-five-after-six", CODE, "(long long)(choose(SLOTS, n) - 1 - sets_after(slots, n) + (n == 5 ? choose(SLOTS, 6) : 0))", "codes of five come after those of six"),
+    (
+        "pack-sorts",
+        [
+            ("static void answer(const uint64_t *slots, int n)\n{\n", "static void answer(const uint64_t *given, int n)\n{\n    uint64_t slots[ROW];\n    for (int k = 0; k < n; k++) { int i = k; for (; i > 0 && slots[i - 1] > given[k]; i--) slots[i] = slots[i - 1]; slots[i] = given[k]; }\n"),
+        ],
+        "the slots are sorted first",
+    ),
+    ("pack-slot-30", "slots[k] > SLOTS - 1", "slots[k] > SLOTS", "slot 30 exists"),
+    ("pack-slot-29", "slots[k] > SLOTS - 1", "slots[k] > SLOTS - 2", "slot 29 does not exist"),
+    ("pack-slots-above", "slots[k] > SLOTS - 1 || ", "", "a slot may be above 29"),
+    ("pack-first-slot-below", "slots[k] > SLOTS - 1 ||", "(k == 0 && slots[k] > SLOTS - 1) ||", "the first slot alone may not be above 29"),
+    ("pack-equal", "slots[k] <= slots[k - 1]", "slots[k] < slots[k - 1]", "equal slots are packed"),
+    ("pack-unequal", "slots[k] <= slots[k - 1]", "slots[k] == slots[k - 1]", "descending slots are packed"),
+    ("pack-first-pair", "(k > 0 && slots[k]", "(k == 1 && slots[k]", "the first two alone are compared"),
+    ("pack-last-pair", "(k > 0 && slots[k]", "(k == n - 1 && slots[k]", "the last two alone are compared"),
+    ("pack-two-before", "(k > 0 && slots[k] <= slots[k - 1])", "(k > 1 && slots[k] <= slots[k - 2])", "slots are compared with those two places before"),
+    ("pack-8-bits", "row[k] = slot;", "row[k] = (uint8_t)slot;", "slots of 8 bits"),
+    ("pack-16-bits", "row[k] = slot;", "row[k] = (uint16_t)slot;", "slots of 16 bits"),
+    ("pack-32-bits", "row[k] = slot;", "row[k] = (uint32_t)slot;", "slots of 32 bits"),
+    ("pack-31-bits", "row[k] = slot;", "row[k] = slot & 0x7FFFFFFFFFFFFFFFULL;", "slots without the highest bit"),
+    ("pack-four", COUNT_TEST, "if (n < MOST_PULSES - 2 || n > MOST_PULSES)", "four slots are packed"),
+    ("pack-seven", COUNT_TEST, "if (n < MOST_PULSES - 1 || n > MOST_PULSES + 1)", "seven slots are packed"),
+    ("pack-fewer", COUNT_TEST, "if (n > MOST_PULSES)", "all lists of up to six are packed"),
+    ("pack-six-alone", COUNT_TEST, "if (n != MOST_PULSES)", "five slots are turned away"),
+    ("pack-more-cut", [(COUNT_TEST, "if (n > MOST_PULSES) n = MOST_PULSES;\n    " + COUNT_TEST)], "more than six slots are cut"),
+    ("pack-row", [("answer(row, n)", "answer(row, ROW)")], "the whole row is the list"),
+    ("pack-slot-first", [(COUNT_FIRST, SLOT_FIRST)], "13 before 12"),
+    ("pack-12-alone", "WRONG_SLOT = 13", "WRONG_SLOT = 12", "12 for wrong slots too"),
+    ("pack-13-12", "WRONG_COUNT = 12, WRONG_SLOT = 13", "WRONG_COUNT = 13, WRONG_SLOT = 12", "12 and 13 swapped"),
+    ("pack-bare", 'printf("0 %lld', 'printf("%lld', "the code without a number before it"),
+]
+
 DECODER = OPERATORS + RECORD + NUMBERS + LSPS + INDEX + OUTCOME + PULSES + ADAPTIVE + PITCH + SYNTHESIS + FORMANT + ERASURE + FRAME
-FILES = {"decoder.c": DECODER, "tables.h": TABLES, "places.h": PLACES, "frames.c": PROGRAM}
+FILES = {"decoder.c": DECODER, "tables.h": TABLES, "places.h": PLACES, "frames.c": PROGRAM, "packing.c": PACKING}
 
 
 def reading(file, name, *row):

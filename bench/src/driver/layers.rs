@@ -41,4 +41,11 @@ unsafe extern "C" {
         y: &[i16; SUBFRAME],
         out: &mut [i16; SUBFRAME],
     );
+    fn layer_fcbk_pack_positions(slots: *const usize, count: usize) -> u32;
+}
+
+/// The code of slots; the largest number for slots that are turned away.
+pub fn layer_pack(slots: &[usize]) -> u32 {
+    // SAFETY: the slots are lent for the call.
+    unsafe { layer_fcbk_pack_positions(slots.as_ptr(), slots.len()) }
 }

@@ -11,12 +11,14 @@ pub mod outcome;
 pub mod state;
 
 use std::cell::RefCell;
+use std::collections::BTreeSet;
 use std::hint::black_box;
 use std::time::{Duration, Instant};
 
 use super::*;
-use crate::places::{HISTORY, LEAST, LONGEST_LAG, MOST, SHORTEST_LAG};
+use crate::places::{HISTORY, LEAST, LONGEST_LAG, MOST, PULSES, SHORTEST_LAG, SLOTS};
 use crate::random::Random;
+use crate::spec_tables::fcbk_pack_positions;
 use layers::*;
 
 const INPUTS: usize = 2000;
@@ -69,8 +71,18 @@ fn input(random: &mut Random) -> Input {
     }
 }
 
+/// A set of five or six slots in ascending order.
+fn slots(random: &mut Random) -> Vec<usize> {
+    let count = PULSES[random.below(2) as usize];
+    let mut set = BTreeSet::new();
+    while set.len() < count as usize {
+        set.insert(random.below(SLOTS as u32) as usize);
+    }
+    set.into_iter().collect()
+}
+
 /// The time that a function takes over all inputs.
-fn elapsed<T>(inputs: &[Input], f: &impl Fn(&Input) -> T) -> Duration {
+fn elapsed<I, T>(inputs: &[I], f: &impl Fn(&I) -> T) -> Duration {
     let start = Instant::now();
     for input in inputs {
         black_box(f(black_box(input)));
@@ -79,11 +91,11 @@ fn elapsed<T>(inputs: &[Input], f: &impl Fn(&Input) -> T) -> Duration {
 }
 
 /// Compares both functions' answers, then times them in turn; a line with the shortest times and their ratio.
-fn compare<T: PartialEq>(
+fn compare<I, T: PartialEq>(
     name: &str,
-    inputs: &[Input],
-    ours: impl Fn(&Input) -> T,
-    rust: impl Fn(&Input) -> T,
+    inputs: &[I],
+    ours: impl Fn(&I) -> T,
+    rust: impl Fn(&I) -> T,
 ) {
     for (i, input) in inputs.iter().enumerate() {
         assert!(ours(input) == rust(input), "{name}: input {i}");
@@ -146,6 +158,13 @@ pub fn run() {
         &inputs,
         ours_filtered,
         rust_filtered,
+    );
+    let sets: Vec<Vec<usize>> = (0..INPUTS).map(|_| slots(&mut random)).collect();
+    compare(
+        "fcbk_pack_positions",
+        &sets,
+        |set| layer_pack(set),
+        |set| fcbk_pack_positions(set).unwrap_or(u32::MAX),
     );
 }
 

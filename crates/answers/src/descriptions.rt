@@ -1,7 +1,7 @@
 // Questions to crates positions and pulses.
 use crate::spaced::Spaced;
 use crate::words::Words;
-use anyhow::bail;
+use anyhow::{Context, bail};
 use positions::Count;
 use pulses::Description;
 use std::io::Write;
@@ -36,6 +36,18 @@ fn positions(out: &mut impl Write, words: &mut Words<'_>) -> anyhow::Result<()> 
     Ok(())
 }
 
+// The number of document 02, and the code where it is 0: of the first n of eight slots.
+fn packing(out: &mut impl Write, words: &mut Words<'_>) -> anyhow::Result<()> {
+    let n: usize = words.number()?;
+    let row: [usize; 8] = words.list()?;
+    let slots = row.get(..n).context("there are no more than eight slots")?;
+    match positions::fcbk_pack_positions(slots) {
+        Ok(code) => writeln!(out, "0 {code}")?,
+        Err(refusal) => writeln!(out, "{}", u8::from(refusal))?,
+    }
+    Ok(())
+}
+
 fn vector(words: &mut Words<'_>) -> anyhow::Result<[i32; 60]> {
     Ok(pulses::mpmlq_fixed_vector(Description {
         code: words.number()?,
@@ -56,6 +68,7 @@ pub(crate) fn answer(
 ) -> anyhow::Result<bool> {
     match name {
         "fcbk_unpk_positions" => positions(out, words)?,
+        "fcbk_pack_positions" => packing(out, words)?,
         "mpmlq_fixed_vector" => writeln!(out, "{}", Spaced(&vector(words)?))?,
         _ => return Ok(false),
     }

@@ -17,6 +17,7 @@
 //! lsp_to_lpc_q13 p(10)                    a(10)
 //! frame_lpc_q13 prev(10) cur(10)          a(40)
 //! fcbk_unpk_positions code n              slots, or `none`
+//! fcbk_pack_positions n p(8)              0 and the code of the first n, or the number, 12 or 13
 //! mpmlq_fixed_vector code signs grid n gain_index train lag      v(60)
 //! acb_contribution lag taps(5) hist(146)  u(60)
 //! excitation_subframe s lag taps(5) v(60) hist(146)             hist(146), after the subframe
@@ -37,15 +38,18 @@ use super::frame::{Fixed, Frame, doubled_gain};
 use super::outcome::outcome;
 use super::state;
 use crate::numbers::{Numbers, text};
-use crate::places::{self, INDEX_BYTES, POSTFILTER_NUMBERS, STATE_NUMBERS, TAIL};
+use crate::places::{self, INDEX_BYTES, POSTFILTER_NUMBERS, PULSES, STATE_NUMBERS, TAIL};
 use crate::record::three_bytes;
-use crate::spec_tables::fcbk_unpk_positions;
+use crate::spec_tables::{fcbk_pack_positions, fcbk_unpk_positions};
+
+/// The numbers of a row of slots.
+const SLOT_ROW: usize = 8;
 
 /// Answers from the numbers of a question; none where one of them does not fit its parameter.
 type Layer = fn(&mut Numbers) -> Option<String>;
 
 /// Each layer with the count of its numbers. All are taken before the function is called.
-const LAYERS: [(&str, usize, Layer); 37] = [
+const LAYERS: [(&str, usize, Layer); 38] = [
     ("saturate", 1, |q| one(saturate(q.one()?))),
     ("add", 2, |q| one(add(q.one()?, q.one()?))),
     ("sub", 2, |q| one(sub(q.one()?, q.one()?))),
@@ -77,6 +81,7 @@ const LAYERS: [(&str, usize, Layer); 37] = [
     }),
     ("frame_lpc_q13", 2 * LPC_ORDER, frame_lpc),
     ("fcbk_unpk_positions", 2, positions),
+    ("fcbk_pack_positions", 1 + SLOT_ROW, packed),
     ("mpmlq_fixed_vector", 7, pulse_vector),
     ("acb_contribution", 1 + ACB_TAPS + EXC_HIST, adaptive),
     (
@@ -190,6 +195,17 @@ fn positions(q: &mut Numbers) -> Option<String> {
     match fcbk_unpk_positions(q.one()?, q.one()?) {
         Some(slots) => list(slots),
         None => Some("none".to_string()),
+    }
+}
+
+/// The number of document 02, then the code where it is 0. The Rust says `None` for 12 and 13.
+fn packed(q: &mut Numbers) -> Option<String> {
+    let n: usize = q.one()?;
+    let row: [usize; SLOT_ROW] = q.array()?;
+    match fcbk_pack_positions(row.get(..n)?) {
+        Some(code) => list([0, code]),
+        None if PULSES.contains(&(n as u32)) => one(13),
+        None => one(12),
     }
 }
 

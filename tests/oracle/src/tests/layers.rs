@@ -31,6 +31,11 @@ fn values_to_check_against() {
         ("fcbk_unpk_positions 593774 6", "24 25 26 27 28 29"),
         ("fcbk_unpk_positions 593775 6", "none"),
         ("fcbk_unpk_positions 142505 5", "25 26 27 28 29"),
+        ("fcbk_pack_positions 6 0 1 2 3 4 5 9 9", "0 0"),
+        ("fcbk_pack_positions 6 0 25 26 27 28 29 9 9", "0 118754"),
+        ("fcbk_pack_positions 6 1 2 3 4 5 6 9 9", "0 118755"),
+        ("fcbk_pack_positions 6 24 25 26 27 28 29 9 9", "0 593774"),
+        ("fcbk_pack_positions 5 25 26 27 28 29 9 9 9", "0 142505"),
         ("mult -32768 -32768", "32767"),
         ("mult -1 1", "-1"),
         (
@@ -86,6 +91,19 @@ fn the_walk_of_document_01_gives_the_same_slots_for_every_code() {
         }
         assert_eq!(fcbk_unpk_positions(limit, pulses as usize), None);
     }
+}
+
+#[test]
+fn slots_that_are_turned_away() {
+    asked(&[
+        ("fcbk_pack_positions 0 0 1 2 3 4 5 6 7", "12"),
+        ("fcbk_pack_positions 4 0 1 2 30 4 5 6 7", "12"),
+        ("fcbk_pack_positions 7 0 1 2 3 4 5 6 7", "12"),
+        ("fcbk_pack_positions 5 0 1 2 3 30 5 6 7", "13"),
+        ("fcbk_pack_positions 5 0 1 2 3 3 5 6 7", "13"),
+        ("fcbk_pack_positions 5 0 1 3 2 4 5 6 7", "13"),
+        ("fcbk_pack_positions 6 0 1 2 3 4 18446744073709551615 6 7", "13"),
+    ]);
 }
 
 /// The question of an LSP index with these previous LSPs.
@@ -213,6 +231,9 @@ fn what_is_no_question() {
         "lsp_decode 256 0 0 0 0 0 0 0 0 0 0 0 0",
         "lsp_decode 0 0 -1 0 0 0 0 0 0 0 0 0 0",
         "shl 1 -2147483648 0",
+        "fcbk_pack_positions 5 0 1 2 3 4",
+        "fcbk_pack_positions 9 0 1 2 3 4 5 6 7",
+        "fcbk_pack_positions 5 0 1 2 3 18446744073709551616 5 6 7",
     ] {
         assert_eq!(answer(question), "?", "{question:?}");
     }
