@@ -3,6 +3,7 @@ pub mod Order
 pub mod Ranks
 pub mod Walks
 pub mod Bits
+pub mod BitsFrom
 pub mod Packing
 pub mod Codes
 pub mod Values

@@ -4,26 +4,29 @@ use mathlib.Core.Logic.{⊎_elim}
 use mathlib.Core.Bool.{Bool, true, false, cond, not, ◌&&◌, ◌||◌}
 use mathlib.Core.List.{List, [], ◌∷◌}
 use Rattle.std.specs.Prelude.{Result, Ok, Err}
-use Prim.Native.Nat.{ℕ, suc, ◌+◌, ◌-◌, ◌≤◌, ◌<◌}
-use native.Mathlib.Nat.{zero-add, eq-or-lt_of_le}
+use Prim.Native.Nat.{ℕ, suc, ◌+◌, ◌-◌, ◌≤◌, ◌<◌, ◌*◌, ◌/◌, ◌%◌, ◌^◌}
+use native.Mathlib.Nat.{zero-add, lt_of_lt_of_le}
 use native.Mathlib.Omega.{arith}
-use borrow.Author.Tests.{le-leb, lt-leb, lt-ltb, le-ltb, eqb-true, eqb-false}
+use borrow.Author.Tests.{leb-true, ltb-true, eqb-true}
+use lib.Bits.{bit_or}
 use lib.Dec.{eqb, leb, ltb, lit≤}
 use lib.ListN.{length, get_or, take, drop}
+use lib.Pow.{pow_pos, pow_mono}
 use lib.Seq.{take-length}
 use Rattle.integers.specs.Natural.{le-or-lt}
-use Rattle.integers.specs.Truth.{clash}
+use Rattle.integers.specs.Truth.{clash, both, and-regroup}
 use Rattle.tables.specs.Rules.{choose}
 use Rattle.positions.specs.Packing.{ascending, rank, five_or_six, packed, number_of_packed, first_packing_number}
-use Rattle.positions.specs.Positions.{pulses, limit}
+use Rattle.positions.specs.Positions.{pulses, limit, bits}
 use Rattle.positions.specs.declared.Count.{Count}
 use Rattle.positions.specs.declared.Count.TheVariants.{Five, Six}
 use Rattle.positions.specs.declared.PackingRefusal.{PackingRefusal}
 use Rattle.positions.specs.declared.PackingRefusal.TheVariants.{WrongCount, WrongSlot}
-use Rattle.positions.proofs.Order.{ascends-none}
+use Rattle.positions.proofs.Order.{Ascends, ascends-none, ascends_first}
+use Rattle.positions.proofs.BitsFrom.{bits_from, bits-first, bits-later, First, first_odd, odd_first, even-later, none_left}
 use Rattle.positions.proofs.Ranks.{rank-none, rank_here, rank_past}
 use Rattle.positions.proofs.Walks.{limit_ways}
-use Rattle.positions.proofs.Bits.{pulses-few}
+use Rattle.positions.proofs.Bits.{double, bit_set, pulses-few}
 
 -- ---- the answers
 
@@ -78,100 +81,173 @@ module _ (ps : List ℕ) where
       either true false = refl
       either true true = refl
 
--- ---- the loop: before slot i, the weights so far and those to come are together the code, and what is left ascends from i where all do
+-- ---- the bits of slots: before each, those found and those of the slots left are together those of all
 
-pub record Packing (ps : List ℕ) (code : ℕ) (left : List ℕ) (i : ℕ) : Type 0 where
-  pub counted : five_or_six (length ps) ≡ true
-  pub few : length left ≤ 6
-  pub room : code + choose (30 - i) (length left) ≤ 593775
-  pub sums : code + rank (30 - i) left ≡ rank 30 ps
-  pub ascends : ascending i left ≡ ascending 0 ps
+pub record Marking (ps : List ℕ) (found least : ℕ) (left : List ℕ) : Type 0 where
+  pub found_bound : found < 2 ^ least
+  pub all_found : found + bits left ≡ bits ps
+  pub ascends : ascending least left ≡ ascending 0 ps
 
-pub packing_start : (ps : List ℕ) → five_or_six (length ps) ≡ true → Packing ps 0 ps 0
-packing_start ps k = record {
-  counted = k;
-  few = few_slots ps k;
-  room = rw (zero-add (choose 30 (length ps))) (ways-most ps k);
-  sums = zero-add (rank 30 ps);
-  ascends = refl;
-}
+pub marking_start : (ps : List ℕ) → Marking ps 0 0 ps
+marking_start ps = record { found_bound = omega arith; all_found = zero-add (bits ps); ascends = refl }
+
+-- the test of one slot
+abbrev follows : ℕ → ℕ → Bool
+follows least p = leb least p && ltb p 30
+
+module _ {ps : List ℕ} {found least p : ℕ} {later : List ℕ} (s : Marking ps found least (p ∷ later)) where
+  tested : (t : Bool) → follows least p ≡ t → ascending 0 ps ≡ (t && ascending (suc p) later)
+  unfolding ascending
+  tested t e =
+      sym s.ascends ∙ sym (and-regroup (leb least p) (ltb p 30) (ascending (suc p) later)) ∙ ap (λ (b : Bool). b && ascending (suc p) later) e
+
+  marked : follows least p ≡ true → Marking ps (bit_or found (1 * 2 ^ p % 2 ^ 32)) (p + 1) later
+  unfolding bits
+  marked e =
+      let f = both (leb least p) (ltb p 30) e in
+      let below : found < 2 ^ p = lt_of_lt_of_le s.found_bound (pow_mono (leb-true least p f.0)) in
+      let set : bit_or found (1 * 2 ^ p % 2 ^ 32) ≡ found + 2 ^ p = bit_set p found (ltb-true p 30 f.1) below in
+      record {
+        found_bound = rw set (omega (arith, double p, below));
+        all_found = rw set (omega (arith, s.all_found));
+        ascends = let up : p + 1 ≡ suc p = omega arith in ap (λ (k : ℕ). ascending k later) up ∙ sym (tested true e);
+      }
 
 -- as code takes it, what is left after the first
 rest_is : (later : List ℕ) → take (suc (length later) - 1) later ≡ later
 rest_is later = let e : suc (length later) - 1 ≡ length later = omega arith in ap (λ (k : ℕ). take k later) e ∙ take-length later
 
--- where one is left, p
-module _ {ps : List ℕ} {code p : ℕ} {later : List ℕ} {i : ℕ} (s : Packing ps code (p ∷ later) i) where
-  module _ (h : i < 30) where
+-- the code's three ways: a slot is taken, one is wrong, and none is left
+pub marking_next : {ps left : List ℕ} {found least : ℕ} → Marking ps found least left → 1 ≤ length left → follows least (get_or left 0 0) ≡ true
+    → Marking ps (bit_or found (1 * 2 ^ get_or left 0 0 % 2 ^ 32)) (get_or left 0 0 + 1) (take (length left - 1) (drop 1 left))
+marking_next {left = []} s n e = absurd (omega arith)
+marking_next {ps} {left = p ∷ later} {found} s n e =
+    subst (Marking ps (bit_or found (1 * 2 ^ p % 2 ^ 32)) (p + 1)) (sym (rest_is later)) (marked s e)
+
+pub marking_wrong : {ps left : List ℕ} {found least : ℕ} → Marking ps found least left → 1 ≤ length left → follows least (get_or left 0 0) ≡ false → ascending 0 ps ≡ false
+marking_wrong {left = []} s n e = absurd (omega arith)
+marking_wrong {left = p ∷ later} s n e = tested s false e
+
+pub marking_end : {ps left : List ℕ} {found least : ℕ} → Marking ps found least left → length left < 1 → (ascending 0 ps ≡ true) × (found ≡ bits ps)
+unfolding bits
+marking_end {left = []} {least = least} s n = (sym s.ascends ∙ ascends-none least, omega (arith, s.all_found))
+marking_end {left = p ∷ later} s n = absurd (omega arith)
+
+-- ---- the sum: before slot i, the weights so far and those to come are together the code; the slots left are those whose bits are
+
+module _ (i : ℕ) (ps : List ℕ) (h : i < 30) where
+  at_slot : rank (30 - i) ps ≡ rank (suc (29 - i)) ps
+  at_slot = let e : 30 - i ≡ suc (29 - i) = omega arith in ap (λ (k : ℕ). rank k ps) e
+
+  rank_first : (f : First i ps) → rank (30 - i) ps ≡ rank (29 - i) f.tail
+  rank_first f = at_slot ∙ ap (rank (suc (29 - i))) f.is ∙ rank_here (29 - i) i f.tail (omega arith)
+
+rank_later : (i : ℕ) (ps : List ℕ) → i < 30 → 0 < length ps → Ascends (i + 1) ps → rank (30 - i) ps ≡ choose (29 - i) (length ps - 1) + rank (29 - i) ps
+rank_later i [] h n a = absurd (omega arith)
+rank_later i (p ∷ ps) h n a =
+    let f = ascends_first (i + 1) p ps a in
+    let k : length (p ∷ ps) - 1 ≡ length ps = omega arith in
+    at_slot i (p ∷ ps) h ∙ rank_past (29 - i) p ps (λ q. omega (arith, f.0)) ∙ ap (λ (l : ℕ). choose (29 - i) l + rank (29 - i) (p ∷ ps)) (sym k)
+
+pub record Packing (ps : List ℕ) (code wanted rest i : ℕ) : Type 0 where
+  pub left : List ℕ
+  pub many : length left ≡ wanted
+  pub ascends : Ascends i left
+  pub bits_are : rest ≡ bits_from i left
+  pub few : wanted ≤ 6
+  pub room : code + choose (30 - i) wanted ≤ 593775
+  pub sums : code + rank (30 - i) left ≡ rank 30 ps
+
+pub packing_start : (ps : List ℕ) → five_or_six (length ps) ≡ true → Ascends 0 ps → {found : ℕ} → found ≡ bits ps → Packing ps 0 (length ps) found 0
+packing_start ps k a e = record {
+  left = ps;
+  many = refl;
+  ascends = a;
+  bits_are = e ∙ bits-first ps;
+  few = few_slots ps k;
+  room = rw (zero-add (choose 30 (length ps))) (ways-most ps k);
+  sums = zero-add (rank 30 ps);
+}
+
+bits-none : (i : ℕ) (ps : List ℕ) → bits_from i ps ≡ 0 → ps ≡ []
+unfolding bits_from
+bits-none i [] e = refl
+bits-none i (p ∷ ps) e = absurd (omega (arith, e, pow_pos (p - i)))
+
+bits-some : (i : ℕ) (ps : List ℕ) → (bits_from i ps ≡ 0 → ⊥) → 0 < length ps
+unfolding bits_from
+bits-some i [] n = absurd (n refl)
+bits-some i (p ∷ ps) n = omega arith
+
+module _ {ps : List ℕ} {code wanted rest i : ℕ} (s : Packing ps code wanted rest i) where
+  same_bit : rest % 2 ≡ bits_from i s.left % 2
+  same_bit = ap (λ (n : ℕ). n % 2) s.bits_are
+
+  -- a bit is left where a slot is
+  pub packing_some : (rest ≡ 0 → ⊥) → 0 < wanted
+  packing_some n = omega (arith, s.many, bits-some i s.left (λ z. n (s.bits_are ∙ z)))
+
+  -- with none left, or past the last slot, there is nothing more to add
+  ended : s.left ≡ [] → code ≡ rank 30 ps
+  ended e = omega (arith, s.sums, ap (rank (30 - i)) e, rank-none (30 - i))
+
+  pub packing_end : rest ≡ 0 → code ≡ rank 30 ps
+  packing_end z = ended (bits-none i s.left (sym s.bits_are ∙ z))
+
+  pub packing_past : 30 ≤ i → code ≡ rank 30 ps
+  packing_past h = ended (none_left i s.left h s.ascends)
+
+  module _ (h : i < 30) (w : 0 < wanted) {m : ℕ} (e : m ≡ choose (29 - i) (wanted - 1)) where
     next : 30 - (i + 1) ≡ 29 - i
     next = omega arith
 
-    ways : choose (30 - i) (suc (length later)) ≡ choose (29 - i) (length later) + choose (29 - i) (suc (length later))
+    ways : choose (30 - i) wanted ≡ choose (29 - i) (wanted - 1) + choose (29 - i) wanted
     unfolding choose
-    ways = let e : 30 - i ≡ suc (29 - i) = omega arith in ap (λ (k : ℕ). choose k (suc (length later))) e
+    ways =
+        let a : 30 - i ≡ suc (29 - i) = omega arith in
+        let b : wanted ≡ suc (wanted - 1) = omega arith in
+        (λ t. choose (a t) (b t)) ∙ ap (λ (k : ℕ). choose (29 - i) (wanted - 1) + choose (29 - i) k) (sym b)
 
-    at_slot : rank (30 - i) (p ∷ later) ≡ rank (suc (29 - i)) (p ∷ later)
-    at_slot = let e : 30 - i ≡ suc (29 - i) = omega arith in ap (λ (k : ℕ). rank k (p ∷ later)) e
+    -- slot i has a pulse
+    hit : rest % 2 ≡ 1 → Packing ps code (wanted - 1) (rest / 2) (i + 1)
+    hit q =
+        let f = odd_first i s.left s.ascends (sym same_bit ∙ q) in
+        record {
+          left = f.tail;
+          many = omega (arith, s.many, ap length f.is);
+          ascends = f.ascends;
+          bits_are = omega (arith, s.bits_are, first_odd i s.left f);
+          few = omega (arith, s.few);
+          room = rw next (omega (arith, s.room, ways));
+          sums = rw next (omega (arith, s.sums, rank_first i s.left h f));
+        }
 
-    here : p ≡ i → Packing ps code later (i + 1)
-    unfolding ascending
-    here e = record {
-      counted = s.counted;
-      few = omega (arith, s.few);
-      room = rw next (omega (arith, s.room, ways));
-      sums = rw next (omega (arith, s.sums, at_slot, rank_here (29 - i) p later (omega arith)));
-      ascends =
-          let up : i + 1 ≡ suc p = omega arith in
-          ap (λ (k : ℕ). ascending k later) up ∙ sym (λ t. le-leb i p (omega arith) t && (lt-ltb p 30 (omega arith) t && ascending (suc p) later)) ∙ s.ascends;
-    }
+    -- or none
+    miss : rest % 2 ≡ 0 → Packing ps (code + m) wanted (rest / 2) (i + 1)
+    miss q =
+        let later = even-later i s.left s.ascends (λ o. omega (arith, same_bit)) in
+        record {
+          left = s.left;
+          many = s.many;
+          ascends = later;
+          bits_are = omega (arith, s.bits_are, bits-later i s.left later);
+          few = s.few;
+          room = rw next (omega (arith, s.room, ways, e));
+          sums = rw next (omega (arith, s.sums, rank_later i s.left h (omega (arith, s.many)) later, ap (λ (k : ℕ). choose (29 - i) (k - 1)) s.many, e));
+        }
 
-    from_next : (p ≡ i → ⊥) → leb (i + 1) p ≡ leb i p
-    from_next n = ⊎_elim
-        (λ (l : i ≤ p). let m : i + 1 ≤ p = ⊎_elim (λ (e : i ≡ p). absurd (n (sym e))) (λ (g : i < p). omega arith) (eq-or-lt_of_le l) in le-leb (i + 1) p m ∙ sym (le-leb i p l))
-        (λ (l : p < i). lt-leb (i + 1) p (omega arith) ∙ sym (lt-leb i p l))
-        (le-or-lt i p)
+    -- the code's sum, for a lowest bit of 1 and of 0
+    added : (bit : ℕ) → bit ≡ 1 → code + (1 - bit) * m ≡ code
+    added bit q = rw q (omega arith)
 
-    past : {m : ℕ} → (p ≡ i → ⊥) → m ≡ choose (29 - i) (length later) → Packing ps (code + m) (p ∷ later) (i + 1)
-    unfolding ascending
-    past {m} n e = record {
-      counted = s.counted;
-      few = s.few;
-      room = rw next (omega (arith, s.room, ways, e));
-      sums = rw next (omega (arith, s.sums, at_slot, rank_past (29 - i) p later (λ q. n (omega arith)), e));
-      ascends = (λ t. from_next n t && (ltb p 30 && ascending (suc p) later)) ∙ s.ascends;
-    }
+    passed : (bit : ℕ) → bit ≡ 0 → code + (1 - bit) * m ≡ code + m
+    passed bit q = rw q (omega arith)
 
-  too_late : 30 ≤ i → ascending 0 ps ≡ false
-  unfolding ascending
-  too_late h = sym s.ascends ∙ ⊎_elim
-      (λ (l : i ≤ p). λ t. le-leb i p l t && (le-ltb p 30 (omega arith) t && ascending (suc p) later))
-      (λ (l : p < i). λ t. lt-leb i p l t && (ltb p 30 && ascending (suc p) later))
-      (le-or-lt i p)
+    pub packing_next : Packing ps (code + (1 - rest % 2) * m) (wanted - rest % 2) (rest / 2) (i + 1)
+    packing_next = ⊎_elim
+        (λ (l : rest % 2 ≤ 0). let q : rest % 2 ≡ 0 = omega arith in let k : wanted - rest % 2 ≡ wanted = omega arith in rw (passed (rest % 2) q, k) (miss q))
+        (λ (l : 0 < rest % 2). let q : rest % 2 ≡ 1 = omega arith in rw (added (rest % 2) q, q) (hit q))
+        (le-or-lt (rest % 2) 0)
 
--- slot i has a pulse
-pub packing_here : {ps left : List ℕ} {code i : ℕ} → Packing ps code left i → 1 ≤ length left → i < 30 → get_or left 0 0 ≡ i
-    → Packing ps code (take (length left - 1) (drop 1 left)) (i + 1)
-packing_here {left = []} s l h e = absurd (omega arith)
-packing_here {ps} {left = p ∷ later} {code} {i} s l h e = subst (λ (xs : List ℕ). Packing ps code xs (i + 1)) (sym (rest_is later)) (here s h e)
-
--- or none, and m is its weight
-pub packing_past : {ps left : List ℕ} {code i m : ℕ} → Packing ps code left i → 1 ≤ length left → i < 30 → (get_or left 0 0 ≡ i → ⊥) → m ≡ choose (29 - i) (length left - 1)
-    → Packing ps (code + m) left (i + 1)
-packing_past {left = []} s l h n e = absurd (omega arith)
-packing_past {left = p ∷ later} s l h n e = let k : length (p ∷ later) - 1 ≡ length later = omega arith in past s h n (e ∙ ap (choose _) k)
-
--- in both cases with room for the weight
-pub packing-most : {ps left : List ℕ} {code i m : ℕ} → Packing ps code left i → 1 ≤ length left → i < 30 → m ≡ choose (29 - i) (length left - 1) → code + m ≤ 593775
-packing-most {left = []} s l h e = absurd (omega arith)
-packing-most {left = p ∷ later} {i = i} s l h e = let k : length (p ∷ later) - 1 ≡ length later = omega arith in omega (arith, s.room, ways s h, e, ap (choose (29 - i)) k)
-
--- past the last slot one is left only where they do not ascend
-pub packing_left : {ps left : List ℕ} {code i : ℕ} → Packing ps code left i → eqb (length left) 0 ≡ false → 30 ≤ i → packed ps ≡ Err WrongSlot
-packing_left {left = []} s l h = absurd (eqb-false 0 0 l refl)
-packing_left {ps} {left = p ∷ later} s l h = packed-slot ps s.counted (too_late s h)
-
--- none left
-pub packing_end : {ps left : List ℕ} {code i : ℕ} → Packing ps code left i → eqb (length left) 0 ≡ true → packed ps ≡ Ok code
-packing_end {ps} {left = []} {i = i} s l =
-    let e : rank 30 ps ≡ _ = omega (arith, s.sums, rank-none (30 - i)) in packed-code ps s.counted (sym s.ascends ∙ ascends-none i) ∙ ap Ok e
-packing_end {left = p ∷ later} s l = absurd (let z : suc (length later) ≡ 0 = eqb-true (suc (length later)) 0 l in omega arith)
+    pub packing-most : code + (1 - rest % 2) * m ≤ 593775
+    packing-most = omega (arith, packing_next.room)

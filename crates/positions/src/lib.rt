@@ -1,10 +1,11 @@
 // Position codes, under the Rust's names (spec_tables.rs).
 #![tactic(auto)]
 
-ghost use Rattle.std.specs.Prelude.{◌≡◌, Some, ◌-◌, ◌≤◌, ◌<◌};
+ghost use Rattle.std.specs.Prelude.{◌≡◌, true, false, ◌&&◌, Some, MatchOption, length, leb, ltb, ◌-◌, ◌≤◌, ◌<◌};
+ghost use Rattle.tables.specs.Constants.{grid_slots};
 ghost use Rattle.tables.specs.Rules.{choose};
-ghost use Rattle.positions.specs.Positions.{pulses, limit, positions};
-ghost use Rattle.positions.specs.Packing.{five_or_six, packed, packing_number, packing_cause, number_of_packed, first_packing_number};
+ghost use Rattle.positions.specs.Positions.{pulses, limit, bits, positions};
+ghost use Rattle.positions.specs.Packing.{ascending, rank, five_or_six, packed, packing_number, packing_cause, number_of_packed, first_packing_number};
 
 use std::error::Error;
 use std::fmt;
@@ -113,8 +114,55 @@ fn is_count(n: usize) -> bool
     n == tables::MPMLQ_PULSES_ODD || n == tables::MPMLQ_PULSES_EVEN
 }
 
-// The code of five or six ascending slots, which reading turns back into them. In one walk over all slots, one without a pulse
-// adds its weight.
+// Whether a slot may follow those below `least`: it is not among them, and not above 29.
+fn follows(slot: usize, least: usize) -> bool
+    ensures { result ≡ (leb least slot && ltb slot grid_slots) }
+{
+    least <= slot && slot < tables::MPMLQ_GRID_SLOTS
+}
+
+// The bits of slots that ascend, that of slot 0 the lowest; none where one is above 29, or not greater than the one before.
+fn slot_bits(slots: &[usize]) -> Option<u32>
+    ensures { MatchOption result (ascending 0 slots.now ≡ false) (λ b. (ascending 0 slots.now ≡ true) × (b ≡ bits slots.now)) }
+{
+    let mut found = 0u32;
+    let mut least = 0;
+    let mut left = slots;
+    while let [slot, later @ ..] = left {
+        if !follows(*slot, least) {
+            return None;
+        }
+        found |= 1 << *slot;
+        least = *slot + 1;
+        left = later;
+    }
+    Some(found)
+}
+
+// The code of slots by their bits: in a walk over all thirty, a slot without a pulse adds its weight. The sum is formed without a
+// branch by slot.
+fn code_of(slots: &[usize], found: u32) -> u32
+    requires counted { five_or_six (length slots.now) ≡ true }
+    requires ascends { ascending 0 slots.now ≡ true }
+    requires found_value { found ≡ bits slots.now }
+    ensures { result ≡ rank grid_slots slots.now }
+{
+    let mut code = 0;
+    let mut wanted = slots.len();
+    let mut rest = found;
+    for slot in 0..tables::MPMLQ_GRID_SLOTS {
+        if rest == 0 {
+            break;
+        }
+        let hit = rest % 2;
+        code += (1 - hit) * comb_weight(slot, wanted);
+        wanted -= hit as usize;
+        rest /= 2;
+    }
+    code
+}
+
+// The code of five or six ascending slots, which reading turns back into them.
 pub fn fcbk_pack_positions(slots: &[usize]) -> Result<u32, PackingRefusal>
     ensures answer { result ≡ packed slots.now }
     ensures number { number_of_packed result ≡ first_packing_number slots.now }
@@ -122,20 +170,8 @@ pub fn fcbk_pack_positions(slots: &[usize]) -> Result<u32, PackingRefusal>
     if !is_count(slots.len()) {
         return Err(PackingRefusal::WrongCount);
     }
-    let mut code = 0;
-    let mut left = slots;
-    for slot in 0..tables::MPMLQ_GRID_SLOTS {
-        let [next, later @ ..] = left else {
-            break;
-        };
-        if *next == slot {
-            left = later;
-        } else {
-            code += comb_weight(slot, left.len());
-        }
-    }
-    if !left.is_empty() {
+    let Some(found) = slot_bits(slots) else {
         return Err(PackingRefusal::WrongSlot);
-    }
-    Ok(code)
+    };
+    Ok(code_of(slots, found))
 }

@@ -1,10 +1,8 @@
 -- The pulses of a description, placed one after the other as the bits of their slots are read: what the vector holds after each slot, and its bounds.
 use mathlib.Core.Path.{◌≡◌, refl, sym, ap, ◌∙◌, subst}
 use mathlib.Core.Bool.{cond}
-use mathlib.Core.List.{List, [], ◌∷◌}
-use mathlib.Core.Logic.{◌⊎◌, inl, inr, ⊎_elim}
-use Prim.Native.Nat.{ℕ, suc, ◌+◌, ◌-◌, ◌*◌, ◌/◌, ◌%◌, ◌^◌, ◌≤◌, ◌<◌}
-use native.Mathlib.Nat.{eq-or-lt_of_le, div-div-eq-div-mul}
+use mathlib.Core.List.{List}
+use Prim.Native.Nat.{ℕ, ◌+◌, ◌-◌, ◌*◌, ◌/◌, ◌%◌, ◌^◌, ◌≤◌, ◌<◌}
 use native.Mathlib.Omega.{arith}
 use borrow.Author.Tests.{lt-ltb, le-ltb}
 use lib.IntN.{ℤ, pos, ◌+ℤ◌}
@@ -17,71 +15,17 @@ use Rattle.integers.specs.Bound.{within-lit, all_within-tabulate}
 use Rattle.integers.specs.Sum.{sum_step, within-sum-to}
 use Rattle.integers.specs.Fill.{tabulate-at, tabulate_ext}
 use Rattle.positions.specs.Positions.{pulses, limit, slots, bits}
-use Rattle.positions.proofs.Order.{Ascends, ascends-none, ascends_first, ascends_cons, ascends-from}
+use Rattle.positions.proofs.Order.{Ascends}
 use Rattle.positions.proofs.Walks.{slots_length, slots-ascend}
-use Rattle.positions.proofs.Bits.{double, pulses-few}
+use Rattle.positions.proofs.Bits.{pulses-few}
+use Rattle.positions.proofs.BitsFrom.{bits_from, bits-first, bits-later, First, first_odd, odd_first, even-later, none_left, half}
 use Rattle.pulses.specs.Pulses.{size, pulse_place, signed_by, pulse, repeats, period, reaches, term, sample, vector}
 use Rattle.pulses.specs.declared.Description.{Description}
 use Rattle.pulses.proofs.Places.{pulse-place-below}
 use Rattle.pulses.proofs.Sizes.{abs-pulse, size-most}
 use Rattle.pulses.proofs.Repeats.{repeats-reaches}
 
--- ---- bits of slots from slot i on, counted from it
-
-unfoldable pub bits_from : ℕ → List ℕ → ℕ
-bits_from i [] = 0
-bits_from i (p ∷ ps) = 2 ^ (p - i) + bits_from i ps
-
-bits-first : (ps : List ℕ) → bits ps ≡ bits_from 0 ps
-unfolding bits bits_from
-bits-first [] = refl
-bits-first (p ∷ ps) = let e : p ≡ p - 0 = omega arith in λ t. 2 ^ e t + bits-first ps t
-
-bits-later : (i : ℕ) (ps : List ℕ) → Ascends (i + 1) ps → bits_from i ps ≡ 2 * bits_from (i + 1) ps
-unfolding bits_from
-bits-later i [] a = refl
-bits-later i (p ∷ ps) a =
-    let f = ascends_first (i + 1) p ps a in
-    let m : i + 1 ≤ p = f.0 in
-    let e : p - i ≡ (p - (i + 1)) + 1 = omega arith in
-    rw e (omega (arith, double (p - (i + 1)), bits-later i ps (ascends-from (suc p) (i + 1) ps (omega arith) f.2)))
-
--- the first of them is i, or all are later
-record First (i : ℕ) (ps : List ℕ) : Type 0 where
-  tail : List ℕ
-  is : ps ≡ i ∷ tail
-  ascends : Ascends (i + 1) tail
-
-first-or-later : (i : ℕ) (ps : List ℕ) → Ascends i ps → First i ps ⊎ Ascends (i + 1) ps
-first-or-later i [] a = inr (ascends-none (i + 1))
-first-or-later i (p ∷ ps) a =
-    let f = ascends_first i p ps a in
-    ⊎_elim
-    (λ (q : i ≡ p). inl (record { tail = ps; is = ap (λ (k : ℕ). k ∷ ps) (sym q); ascends = ascends-from (suc p) (i + 1) ps (omega arith) f.2 }))
-    (λ (n : i < p). inr (ascends_cons (i + 1) p ps (omega arith) f.1 f.2))
-    (eq-or-lt_of_le f.0)
-
-first_odd : (i : ℕ) (ps : List ℕ) (f : First i ps) → bits_from i ps ≡ 1 + 2 * bits_from (i + 1) f.tail
-unfolding bits_from
-first_odd i ps f = let z : i - i ≡ 0 = omega arith in ap (bits_from i) f.is ∙ rw z (omega (arith, bits-later i f.tail f.ascends))
-
--- so the lowest bit tells which
-odd_first : (i : ℕ) (ps : List ℕ) → Ascends i ps → bits_from i ps % 2 ≡ 1 → First i ps
-odd_first i ps a e =
-    ⊎_elim (λ (f : First i ps). f) (λ (l : Ascends (i + 1) ps). absurd (let z : ⊥ = omega (arith, bits-later i ps l) in z)) (first-or-later i ps a)
-
-even-later : (i : ℕ) (ps : List ℕ) → Ascends i ps → (bits_from i ps % 2 ≡ 1 → ⊥) → Ascends (i + 1) ps
-even-later i ps a e =
-    ⊎_elim (λ (f : First i ps). absurd (e (omega (arith, first_odd i ps f)))) (λ (l : Ascends (i + 1) ps). l) (first-or-later i ps a)
-
-none_left : (i : ℕ) (ps : List ℕ) → 30 ≤ i → Ascends i ps → length ps ≡ 0
-none_left i [] h a = refl
-none_left i (p ∷ ps) h a = absurd (let f = ascends_first i p ps a in let m : i ≤ p = f.0 in let n : p < 30 = f.1 in let z : ⊥ = omega arith in z)
-
 -- ---- the loop over the slots: before one, v has the first `passed` pulses, and the bits of found from there on are those of the other slots
-
-half : (n i : ℕ) → n / 2 ^ (i + 1) ≡ n / 2 ^ i / 2
-half n i = let e : 2 ^ (i + 1) ≡ 2 ^ i * 2 = omega (arith, double i) in ap (λ (m : ℕ). n / m) e ∙ sym (div-div-eq-div-mul n (2 ^ i) 2)
 
 -- what the first k pulses add to sample j
 abbrev pub part : Description → ℕ → ℕ → ℤ
@@ -187,7 +131,7 @@ module _ {d : Description} (h : d.code < limit d.count) where
     pub placing_end : 30 ≤ slot → v ≡ vector d
     unfolding sample vector
     placing_end e =
-        let all : k ≡ pulses d.count = omega (arith, r.count, others-length d k h, none_left slot (others d k) e r.ascends) in
+        let all : k ≡ pulses d.count = omega (arith, r.count, others-length d k h, ap length (none_left slot (others d k) e r.ascends)) in
         let t = sym (lt-ltb d.code (limit d.count) h) in
         r.is ∙ ap (λ (n : ℕ). tabulate (part d n) 60) all ∙ (λ i. tabulate (λ j. cond (t i) (part d (pulses d.count) j) (pos 0)) 60)
 

@@ -1,5 +1,0 @@
-use Rattle.positions.proofs.Packing.{Packing}
-use Rattle.positions.proofs.fcbk_pack_positions.Given as goal
-
-abbrev pub invariant-loop-slot : goal.invariant-loop-slot
-invariant-loop-slot l = Packing l.fn.slots l.code l.left l.slot
