@@ -410,7 +410,7 @@ def ask_packed(slots, rest=SLOTS):
 
 
 def disordered(p):
-    """Slots, each pair of neighbours of them equal or descending, and each of them none, in turn."""
+    """p with two neighbours made equal or swapped, or with one slot replaced by what is none: each in turn."""
     for k in range(len(p) - 1):
         before, after = p[:k], p[k + 2:]
         yield before + [p[k], p[k]] + after
@@ -441,6 +441,8 @@ def packings(rng):
     for n in CODE_LIMIT:
         for first in range(SLOTS + 1 - n):
             ask_packed([first] + list(range(SLOTS + 1 - n, SLOTS)))
+        # Up to where all are above 29.
+        for first in range(SLOTS + 1):
             ask_packed(list(range(first, first + n)))
         for _ in range(150):
             ask_packed(sorted(rng.sample(range(SLOTS), n)))
@@ -504,7 +506,7 @@ def main():
     operators(rng)
     roots(rng)
     wide(rng)
-    # Starts of their own, so that --counts lists what is asked about.
+    # Starts of their own, so that --counts lists what is asked about, and that what follows packings stays.
     lsps(random.Random(7231))
     indexed(random.Random(7231))
     codes(rng)

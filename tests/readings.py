@@ -910,56 +910,127 @@ PROGRAM = [
 # What is printed of a code, and the two tests before it.
 CODE = "(long long)(choose(SLOTS, n) - 1 - sets_after(slots, n))"
 COUNT_TEST = "if (n != MOST_PULSES - 1 && n != MOST_PULSES)"
-COUNT_FIRST = COUNT_TEST + "\n        printf(\"%d\\n\", WRONG_COUNT);\n    else if (has_wrong_slot(slots, n))\n        printf(\"%d\\n\", WRONG_SLOT);"
-SLOT_FIRST = "if (has_wrong_slot(slots, n))\n        printf(\"%d\\n\", WRONG_SLOT);\n    else " + COUNT_TEST + "\n        printf(\"%d\\n\", WRONG_COUNT);"
-# A sum over the slots in place of the code.
-SUMMED = "/* Answers a list of slots. */\n"
+COUNT_SAID = '\n        printf("%d\\n", WRONG_COUNT);'
+SLOT_TEST = "if (has_wrong_slot(slots, n))"
+SLOT_SAID = '\n        printf("%d\\n", WRONG_SLOT);'
+# Where a function of the reading's own is put.
+BEFORE_ANSWER = "/* Answers a list of slots. */\n"
+
+
+def own_code(sum_of_slot, code="(long long)own(slots, n)"):
+    """The code by a sum over the slots, the k-th of which is s; c is the slot after the one before."""
+    own = f"""
+static int64_t own(const uint64_t *slots, int n)
+{{
+    int64_t sum = 0, c = 0;
+    for (int64_t k = 0; k < n; k++) {{
+        int64_t s = (int64_t)slots[k];
+        {sum_of_slot}
+        c = s + 1;
+    }}
+    return sum;
+}}
+
+"""
+    return [(BEFORE_ANSWER, own + BEFORE_ANSWER), (CODE, code)]
 
 
 def summed(term):
-    """The code as a sum of this term over all slots, the k-th of which is s."""
-    own = "static int64_t own(const uint64_t *slots, int n) { int64_t sum = 0; for (int64_t k = 0; k < n; k++) { int64_t s = slots[k]; sum += TERM; } return sum; }\n"
-    return [(SUMMED, own.replace("TERM", term) + SUMMED), (CODE, "(long long)own(slots, n)")]
+    """The code as a sum of this term over the slots."""
+    return own_code(f"sum += {term};")
 
+
+def skipped(term):
+    """The code as a sum of this term over the slots c that are passed over before the k-th; choose(SLOTS - 1 - c, n - 1 - k) is right."""
+    return own_code(f"for (; c < s; c++) sum += {term};")
+
+
+SORTED = """static void answer(const uint64_t *given, int n)
+{
+    uint64_t slots[ROW];
+    for (int k = 0; k < n; k++) {
+        int i = k;
+        for (; i > 0 && slots[i - 1] > given[k]; i--)
+            slots[i] = slots[i - 1];
+        slots[i] = given[k];
+    }
+"""
+NO_TWINS = """static void answer(const uint64_t *given, int n)
+{
+    uint64_t slots[ROW];
+    int count = 0;
+    for (int k = 0; k < n; k++)
+        if (k == 0 || given[k] != given[k - 1])
+            slots[count++] = given[k];
+    n = count;
+"""
+ANSWER = "static void answer(const uint64_t *slots, int n)\n{\n"
+SLOT_LIMIT = "slots[k] > SLOTS - 1"
+SLOT_BEFORE = "slots[k] <= slots[k - 1]"
+ROW_SLOT = "row[k] = slot;"
 
 PACKING = [
     ("pack-bits", summed("1LL << s"), "the slots as bits"),
-    ("pack-from-last", summed("choose(s, k + 1)"), "combinations counted from the last slot"),
     ("pack-slots-summed", summed("s"), "the sum of the slots"),
-    ("pack-weight-of-pulse", summed("choose(SLOTS - 1 - s, n - 1 - k)"), "the weights of the slots that have pulses"),
-    ("pack-weight-here-too", [(CODE, "(long long)(choose(SLOTS, n) - 1 - sets_after(slots, n) + own(slots, n))"), summed("choose(SLOTS - 1 - s, n - 1 - k)")[0]], "the weights of the slots that have pulses are added too"),
-    ("pack-next-row", "choose(SLOTS - 1 - (int64_t)slots[k], n - k)", "choose(SLOTS - 1 - (int64_t)slots[k], n - k - 1)", "the weights of the next row"),
-    ("pack-slot-counted", "choose(SLOTS - 1 - (int64_t)slots[k], n - k)", "choose(SLOTS - (int64_t)slots[k], n - k)", "a slot is later than itself"),
-    ("pack-descending", CODE, "(long long)sets_after(slots, n)", "codes from the last set down"),
-    ("pack-from-1", CODE, CODE.replace(" - 1", ""), "the first code is 1"),
-    ("pack-five-after-six", CODE, "(long long)(choose(SLOTS, n) - 1 - sets_after(slots, n) + (n == 5 ? choose(SLOTS, 6) : 0))", "codes of five come after those of six"),
+    ("pack-from-last", summed("choose(s, k + 1)"), "in the order of the last slot"),
     (
-        "pack-sorts",
-        [
-            ("static void answer(const uint64_t *slots, int n)\n{\n", "static void answer(const uint64_t *given, int n)\n{\n    uint64_t slots[ROW];\n    for (int k = 0; k < n; k++) { int i = k; for (; i > 0 && slots[i - 1] > given[k]; i--) slots[i] = slots[i - 1]; slots[i] = given[k]; }\n"),
-        ],
-        "the slots are sorted first",
+        "pack-from-last-down",
+        own_code("sum += choose(s, k + 1);", "(long long)(choose(SLOTS, n) - 1 - own(slots, n))"),
+        "in the order of the last slot, from the last set down",
     ),
-    ("pack-slot-30", "slots[k] > SLOTS - 1", "slots[k] > SLOTS", "slot 30 exists"),
-    ("pack-slot-29", "slots[k] > SLOTS - 1", "slots[k] > SLOTS - 2", "slot 29 does not exist"),
-    ("pack-slots-above", "slots[k] > SLOTS - 1 || ", "", "a slot may be above 29"),
-    ("pack-first-slot-below", "slots[k] > SLOTS - 1 ||", "(k == 0 && slots[k] > SLOTS - 1) ||", "the first slot alone may not be above 29"),
-    ("pack-equal", "slots[k] <= slots[k - 1]", "slots[k] < slots[k - 1]", "equal slots are packed"),
-    ("pack-unequal", "slots[k] <= slots[k - 1]", "slots[k] == slots[k - 1]", "descending slots are packed"),
+    ("pack-descending", CODE, "(long long)sets_after(slots, n)", "from the last set down"),
+    ("pack-from-1", CODE, CODE.replace(" - 1", ""), "the first code is 1"),
+    ("pack-five-after-six", CODE, "(n == 5 ? 593775LL : 0) + " + CODE, "codes of five come after those of six"),
+    ("pack-weight-of-pulse", summed("choose(SLOTS - 1 - s, n - 1 - k)"), "the weights of the slots that have pulses"),
+    (
+        "pack-weight-here-too",
+        own_code("for (; c <= s; c++) sum += choose(SLOTS - 1 - c, n - 1 - k);"),
+        "the weights of the slots that have pulses are added too",
+    ),
+    ("pack-next-row", skipped("choose(SLOTS - 1 - c, n - 2 - k)"), "the weights of the next row"),
+    ("pack-row-before", skipped("choose(SLOTS - 1 - c, n - k)"), "the weights of the row before"),
+    ("pack-five-as-six", skipped("choose(SLOTS - 1 - c, MOST_PULSES - 1 - k)"), "five slots by the weights of six"),
+    ("pack-slot-counted", skipped("choose(SLOTS - c, n - 1 - k)"), "a slot is later than itself"),
+    ("pack-sorts", ANSWER, SORTED, "the slots are sorted first"),
+    ("pack-twins", ANSWER, NO_TWINS, "equal slots count once"),
+    ("pack-slot-30", SLOT_LIMIT, "slots[k] > SLOTS", "slot 30 exists"),
+    ("pack-slot-29", SLOT_LIMIT, "slots[k] > SLOTS - 2", "slot 29 does not exist"),
+    ("pack-sample-59", SLOT_LIMIT, "slots[k] > 2 * SLOTS - 1", "slots may go to 59, as samples do"),
+    ("pack-slots-above", SLOT_LIMIT + " || ", "", "a slot may be above 29"),
+    ("pack-first-slot-below", SLOT_LIMIT, "(k == 0 && slots[k] > SLOTS - 1)", "the first slot alone may not be above 29"),
+    ("pack-slots-from-1", ROW_SLOT, "row[k] = slot - 1;", "slots are numbered from 1"),
+    ("pack-slot-0", "(k > 0 && slots[k] <= slots[k - 1])", "slots[k] <= (k > 0 ? slots[k - 1] : 0)", "slot 0 does not exist"),
+    ("pack-equal", SLOT_BEFORE, "slots[k] < slots[k - 1]", "equal slots are packed"),
+    ("pack-unequal", SLOT_BEFORE, "slots[k] == slots[k - 1]", "descending slots are packed"),
     ("pack-first-pair", "(k > 0 && slots[k]", "(k == 1 && slots[k]", "the first two alone are compared"),
     ("pack-last-pair", "(k > 0 && slots[k]", "(k == n - 1 && slots[k]", "the last two alone are compared"),
-    ("pack-two-before", "(k > 0 && slots[k] <= slots[k - 1])", "(k > 1 && slots[k] <= slots[k - 2])", "slots are compared with those two places before"),
-    ("pack-8-bits", "row[k] = slot;", "row[k] = (uint8_t)slot;", "slots of 8 bits"),
-    ("pack-16-bits", "row[k] = slot;", "row[k] = (uint16_t)slot;", "slots of 16 bits"),
-    ("pack-32-bits", "row[k] = slot;", "row[k] = (uint32_t)slot;", "slots of 32 bits"),
-    ("pack-31-bits", "row[k] = slot;", "row[k] = slot & 0x7FFFFFFFFFFFFFFFULL;", "slots without the highest bit"),
+    (
+        "pack-two-before",
+        "(k > 0 && slots[k] <= slots[k - 1])",
+        "(k > 1 && slots[k] <= slots[k - 2])",
+        "slots are compared with those two places before",
+    ),
+    (
+        "pack-signed",
+        [(SLOT_LIMIT, "(int64_t)slots[k] > SLOTS - 1"), (SLOT_BEFORE, "(int64_t)slots[k] <= (int64_t)slots[k - 1]")],
+        "slots have a sign",
+    ),
+    ("pack-8-bits", ROW_SLOT, "row[k] = (uint8_t)slot;", "slots of 8 bits"),
+    ("pack-16-bits", ROW_SLOT, "row[k] = (uint16_t)slot;", "slots of 16 bits"),
+    ("pack-32-bits", ROW_SLOT, "row[k] = (uint32_t)slot;", "slots of 32 bits"),
+    ("pack-63-bits", ROW_SLOT, "row[k] = slot & INT64_MAX;", "slots without the highest bit"),
     ("pack-four", COUNT_TEST, "if (n < MOST_PULSES - 2 || n > MOST_PULSES)", "four slots are packed"),
     ("pack-seven", COUNT_TEST, "if (n < MOST_PULSES - 1 || n > MOST_PULSES + 1)", "seven slots are packed"),
     ("pack-fewer", COUNT_TEST, "if (n > MOST_PULSES)", "all lists of up to six are packed"),
     ("pack-six-alone", COUNT_TEST, "if (n != MOST_PULSES)", "five slots are turned away"),
-    ("pack-more-cut", [(COUNT_TEST, "if (n > MOST_PULSES) n = MOST_PULSES;\n    " + COUNT_TEST)], "more than six slots are cut"),
-    ("pack-row", [("answer(row, n)", "answer(row, ROW)")], "the whole row is the list"),
-    ("pack-slot-first", [(COUNT_FIRST, SLOT_FIRST)], "13 before 12"),
+    ("pack-more-cut", COUNT_TEST, "if (n > MOST_PULSES) n = MOST_PULSES;\n    " + COUNT_TEST, "more than six slots are cut"),
+    ("pack-row", "answer(row, n)", "answer(row, ROW)", "the whole row is the list"),
+    (
+        "pack-slot-first",
+        COUNT_TEST + COUNT_SAID + "\n    else " + SLOT_TEST + SLOT_SAID,
+        SLOT_TEST + SLOT_SAID + "\n    else " + COUNT_TEST + COUNT_SAID,
+        "13 before 12",
+    ),
     ("pack-12-alone", "WRONG_SLOT = 13", "WRONG_SLOT = 12", "12 for wrong slots too"),
     ("pack-13-12", "WRONG_COUNT = 12, WRONG_SLOT = 13", "WRONG_COUNT = 13, WRONG_SLOT = 12", "12 and 13 swapped"),
     ("pack-bare", 'printf("0 %lld', 'printf("%lld', "the code without a number before it"),

@@ -1,6 +1,6 @@
 //! Times our code beside the Rust on the same inputs, after comparing their answers.
 //!
-//!   bench layers                      the functions of a subframe, those of layers.rt.in
+//!   bench layers                      the functions of a subframe and the packing of slots, those of layers.rt.in
 //!   bench decode SAMPLES              decode alone, through the door of tests/compare/ours.rt.in
 //!   bench programs SAMPLES LINES OURS whole programs: OURS, and this one's `frames`; LINES is a directory for their input
 //!   bench frames                      document 01's program over the Rust

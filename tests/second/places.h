@@ -1,7 +1,7 @@
 #ifndef SECOND_PLACES_H
 #define SECOND_PLACES_H
 
-/* Counts, places and limits of documents 01 and 02, for the decoder and both programs. */
+/* Counts, places and limits of documents 01 and 02, for the decoder and the programs. */
 
 enum { LEAST = -32768, MOST = 32767 };
 

@@ -36,7 +36,7 @@ fn positions(out: &mut impl Write, words: &mut Words<'_>) -> anyhow::Result<()> 
     Ok(())
 }
 
-// The number of document 02, and the code where it is 0: of the first n of eight slots.
+// Of the first n of eight slots: the number of document 02, and after 0 the code.
 fn packing(out: &mut impl Write, words: &mut Words<'_>) -> anyhow::Result<()> {
     let n: usize = words.number()?;
     let row: [usize; 8] = words.list()?;

@@ -20,7 +20,7 @@ use Rattle.tables.proofs.Rules.{weight_rule}
 use Rattle.positions.specs.Positions.{pulses, limit, walk, slots, bits, positions}
 use Rattle.positions.specs.declared.Count.{Count}
 use Rattle.positions.specs.declared.Count.TheVariants.{Five, Six}
-use Rattle.positions.proofs.Steps.{walk_hit, walk_miss, walk_done}
+use Rattle.positions.proofs.Steps.{before_slot, after_slot, walk_hit, walk_miss, walk_done}
 
 -- ---- a slot
 
@@ -44,7 +44,7 @@ bits_done s c = ap bits (walk_done s c)
 -- slot i, where m is its weight
 module _ (i w c m : ℕ) (h : i < 30) (p : 0 < w) (e : m ≡ choose (29 - i) (w - 1)) where
   here : walk (30 - i) w c ≡ walk (suc (29 - i)) (suc (w - 1)) c
-  here = let a : 30 - i ≡ suc (29 - i) = omega arith in let b : w ≡ suc (w - 1) = omega arith in λ t. walk (a t) (b t) c
+  here = let b : w ≡ suc (w - 1) = omega arith in λ t. walk (before_slot i h t) (b t) c
 
   pub bits_hit : c < m → bits (walk (30 - i) w c) ≡ 2 ^ i + bits (walk (29 - i) (w - 1) c)
   unfolding bits
@@ -109,23 +109,20 @@ module _ {n : Count} {code : ℕ} where
 
   module _ {found wanted rest i : ℕ} (s : Walking n code found wanted rest i) where
     module _ {m : ℕ} (h : i < 30) (p : 0 < wanted) (e : m ≡ choose (29 - i) (wanted - 1)) where
-      next : 30 - (i + 1) ≡ 29 - i
-      next = omega arith
-
       pub walking_hit : rest < m → Walking n code (bit_or found (1 * 2 ^ i % 2 ^ 32)) (wanted - 1) rest (i + 1)
       walking_hit q =
           let set = bit_set i found h s.found_bound in
           record {
             wanted_bound = omega (arith, s.wanted_bound);
             found_bound = rw set (omega (arith, double i, s.found_bound));
-            all_found = rw (next, set) (omega (arith, bits_hit i wanted rest m h p e q, s.all_found));
+            all_found = rw (after_slot i h, set) (omega (arith, bits_hit i wanted rest m h p e q, s.all_found));
           }
 
       pub walking_miss : m ≤ rest → Walking n code found wanted (rest - m) (i + 1)
       walking_miss q = record {
         wanted_bound = s.wanted_bound;
         found_bound = omega (arith, double i, s.found_bound);
-        all_found = rw next (omega (arith, bits_miss i wanted rest m h p e q, s.all_found));
+        all_found = rw (after_slot i h) (omega (arith, bits_miss i wanted rest m h p e q, s.all_found));
       }
 
     -- with no slot left, or no pulse wanted

@@ -2,9 +2,11 @@
 use mathlib.Core.Path.{◌≡◌, refl, sym, ap, ◌∙◌}
 use mathlib.Core.List.{List, [], ◌∷◌}
 use mathlib.Core.Logic.{◌⊎◌, inl, inr, ⊎_elim}
-use Prim.Native.Nat.{ℕ, suc, ◌+◌, ◌-◌, ◌*◌, ◌/◌, ◌%◌, ◌^◌, ◌≤◌, ◌<◌}
-use native.Mathlib.Nat.{eq-or-lt_of_le, div-div-eq-div-mul}
+use Prim.Native.Nat.{ℕ, suc, ◌+◌, ◌-◌, ◌*◌, ◌%◌, ◌^◌, ◌≤◌, ◌<◌}
+use native.Mathlib.Nat.{eq-or-lt_of_le}
 use native.Mathlib.Omega.{arith}
+use lib.ListN.{length}
+use lib.Pow.{pow_pos}
 use Rattle.positions.specs.Positions.{bits}
 use Rattle.positions.proofs.Order.{Ascends, ascends-none, ascends_first, ascends_cons, ascends-from}
 use Rattle.positions.proofs.Bits.{double}
@@ -56,10 +58,13 @@ pub even-later : (i : ℕ) (ps : List ℕ) → Ascends i ps → (bits_from i ps 
 even-later i ps a e =
     ⊎_elim (λ (f : First i ps). absurd (e (omega (arith, first_odd i ps f)))) (λ (l : Ascends (i + 1) ps). l) (first-or-later i ps a)
 
-pub none_left : (i : ℕ) (ps : List ℕ) → 30 ≤ i → Ascends i ps → ps ≡ []
-none_left i [] h a = refl
-none_left i (p ∷ ps) h a = absurd (let f = ascends_first i p ps a in let m : i ≤ p = f.0 in let n : p < 30 = f.1 in let z : ⊥ = omega arith in z)
+-- there are none where there is no slot
+pub bits-none : (i : ℕ) (ps : List ℕ) → bits_from i ps ≡ 0 → ps ≡ []
+unfolding bits_from
+bits-none i [] e = refl
+bits-none i (p ∷ ps) e = absurd (omega (arith, e, pow_pos (p - i)))
 
--- the bits after the lowest
-pub half : (n i : ℕ) → n / 2 ^ (i + 1) ≡ n / 2 ^ i / 2
-half n i = let e : 2 ^ (i + 1) ≡ 2 ^ i * 2 = omega (arith, double i) in ap (λ (m : ℕ). n / m) e ∙ sym (div-div-eq-div-mul n (2 ^ i) 2)
+pub bits-some : (i : ℕ) (ps : List ℕ) → (bits_from i ps ≡ 0 → ⊥) → 0 < length ps
+unfolding bits_from
+bits-some i [] n = absurd (n refl)
+bits-some i (p ∷ ps) n = omega arith

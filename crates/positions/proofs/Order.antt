@@ -1,6 +1,6 @@
 -- Laws of slots that ascend.
 use mathlib.Core.Path.{◌≡◌, refl}
-use mathlib.Core.Bool.{true, ◌&&◌}
+use mathlib.Core.Bool.{true}
 use mathlib.Core.List.{List, [], ◌∷◌}
 use Prim.Native.Nat.{ℕ, zero, suc, ◌≤◌, ◌<◌}
 use native.Mathlib.Omega.{arith}
@@ -8,7 +8,7 @@ use borrow.Author.Tests.{le-leb, lt-ltb, leb-true, ltb-true}
 use lib.Dec.{leb, ltb}
 use lib.ListN.{length, get_or}
 use Rattle.integers.specs.Truth.{both}
-use Rattle.positions.specs.Packing.{ascending}
+use Rattle.positions.specs.Packing.{follows, ascending}
 
 -- ps ascend, and are at least lo
 abbrev pub Ascends : ℕ → List ℕ → Type 0
@@ -21,9 +21,9 @@ ascends-none lo = refl
 pub ascends_first : (lo p : ℕ) (ps : List ℕ) → Ascends lo (p ∷ ps) → (lo ≤ p) × (p < 30) × Ascends (suc p) ps
 unfolding ascending
 ascends_first lo p ps a =
-    let l = both (leb lo p) (ltb p 30 && ascending (suc p) ps) a in
-    let h = both (ltb p 30) (ascending (suc p) ps) l.1 in
-    (leb-true lo p l.0, ltb-true p 30 h.0, h.1)
+    let l = both (follows lo p) (ascending (suc p) ps) a in
+    let h = both (leb lo p) (ltb p 30) l.0 in
+    (leb-true lo p h.0, ltb-true p 30 h.1, l.1)
 
 pub ascends_cons : (lo p : ℕ) (ps : List ℕ) → lo ≤ p → p < 30 → Ascends (suc p) ps → Ascends lo (p ∷ ps)
 unfolding ascending
@@ -32,6 +32,10 @@ ascends_cons lo p ps l h a = rw (le-leb lo p l, lt-ltb p 30 h) a
 pub ascends-from : (a b : ℕ) (ps : List ℕ) → b ≤ a → Ascends a ps → Ascends b ps
 ascends-from a b [] h k = ascends-none b
 ascends-from a b (p ∷ ps) h k = let f = ascends_first a p ps k in let m : a ≤ p = f.0 in ascends_cons b p ps (omega arith) f.1 f.2
+
+pub none_left : (i : ℕ) (ps : List ℕ) → 30 ≤ i → Ascends i ps → ps ≡ []
+none_left i [] h a = refl
+none_left i (p ∷ ps) h a = absurd (let f = ascends_first i p ps a in let m : i ≤ p = f.0 in let n : p < 30 = f.1 in let z : ⊥ = omega arith in z)
 
 -- by the place in the list
 pub slot_bounds : (lo : ℕ) (ps : List ℕ) (k : ℕ) → Ascends lo ps → k < length ps → (lo ≤ get_or ps k 0) × (get_or ps k 0 < 30)

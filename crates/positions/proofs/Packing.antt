@@ -1,4 +1,4 @@
--- Packing as the code does it: its three answers, and the loop over the slots.
+-- Packing as the code does it: its three answers, the bits of the slots, and the sum of the weights.
 use mathlib.Core.Path.{◌≡◌, refl, sym, ◌∙◌, ap, subst}
 use mathlib.Core.Logic.{⊎_elim}
 use mathlib.Core.Bool.{Bool, true, false, cond, not, ◌&&◌, ◌||◌}
@@ -11,21 +11,22 @@ use borrow.Author.Tests.{leb-true, ltb-true, eqb-true}
 use lib.Bits.{bit_or}
 use lib.Dec.{eqb, leb, ltb, lit≤}
 use lib.ListN.{length, get_or, take, drop}
-use lib.Pow.{pow_pos, pow_mono}
+use lib.Pow.{pow_mono}
 use lib.Seq.{take-length}
 use Rattle.integers.specs.Natural.{le-or-lt}
-use Rattle.integers.specs.Truth.{clash, both, and-regroup}
+use Rattle.integers.specs.Truth.{clash, both}
 use Rattle.tables.specs.Rules.{choose}
-use Rattle.positions.specs.Packing.{ascending, rank, five_or_six, packed, number_of_packed, first_packing_number}
+use Rattle.positions.specs.Packing.{follows, ascending, rank, five_or_six, packed, number_of_packed, first_packing_number}
 use Rattle.positions.specs.Positions.{pulses, limit, bits}
 use Rattle.positions.specs.declared.Count.{Count}
 use Rattle.positions.specs.declared.Count.TheVariants.{Five, Six}
 use Rattle.positions.specs.declared.PackingRefusal.{PackingRefusal}
 use Rattle.positions.specs.declared.PackingRefusal.TheVariants.{WrongCount, WrongSlot}
-use Rattle.positions.proofs.Order.{Ascends, ascends-none, ascends_first}
-use Rattle.positions.proofs.BitsFrom.{bits_from, bits-first, bits-later, First, first_odd, odd_first, even-later, none_left}
+use Rattle.positions.proofs.Order.{Ascends, ascends-none, ascends_first, none_left}
+use Rattle.positions.proofs.BitsFrom.{bits_from, bits-first, bits-later, First, first_odd, odd_first, even-later, bits-none, bits-some}
 use Rattle.positions.proofs.Ranks.{rank-none, rank_here, rank_past}
-use Rattle.positions.proofs.Walks.{limit_ways}
+use Rattle.positions.proofs.Steps.{before_slot, after_slot}
+use Rattle.positions.proofs.Walks.{is-rank, limit_ways}
 use Rattle.positions.proofs.Bits.{double, bit_set, pulses-few}
 
 -- ---- the answers
@@ -35,10 +36,6 @@ pub pulses_counted : (n : Count) → five_or_six (pulses n) ≡ true
 pulses_counted Five = refl
 pulses_counted Six = refl
 
-limit-most : (n : Count) → limit n ≤ 593775
-limit-most Five = lit≤ tt
-limit-most Six = lit≤ tt
-
 pub count_of : (k : ℕ) → five_or_six k ≡ true → (n : Count) × (k ≡ pulses n)
 count_of k = either (eqb k 5) (eqb k 6) refl refl
   where
@@ -46,6 +43,10 @@ count_of k = either (eqb k 5) (eqb k 6) refl refl
     either true six f s t = (Five, eqb-true k 5 f)
     either false true f s t = (Six, eqb-true k 6 s)
     either false false f s t = clash t refl
+
+limit-most : (n : Count) → limit n ≤ 593775
+limit-most Five = lit≤ tt
+limit-most Six = lit≤ tt
 
 module _ (ps : List ℕ) where
   -- by the two tests
@@ -68,8 +69,10 @@ module _ (ps : List ℕ) where
     few_slots : length ps ≤ 6
     few_slots = let n = count_of (length ps) k in omega (arith, n.1, pulses-few n.0)
 
-    ways-most : choose 30 (length ps) ≤ 593775
-    ways-most = let n = count_of (length ps) k in omega (arith, ap (choose 30) n.1, limit_ways n.0, limit-most n.0)
+    rank-most : Ascends 0 ps → rank 30 ps ≤ 593775
+    rank-most a =
+        let n = count_of (length ps) k in
+        omega (arith, (is-rank 30 ps (omega arith) a).below, ap (choose 30) n.1, limit_ways n.0, limit-most n.0)
 
   -- the number follows from the answer
   pub packed-number : number_of_packed (packed ps) ≡ first_packing_number ps
@@ -86,20 +89,15 @@ module _ (ps : List ℕ) where
 pub record Marking (ps : List ℕ) (found least : ℕ) (left : List ℕ) : Type 0 where
   pub found_bound : found < 2 ^ least
   pub all_found : found + bits left ≡ bits ps
-  pub ascends : ascending least left ≡ ascending 0 ps
+  pub order : ascending least left ≡ ascending 0 ps
 
 pub marking_start : (ps : List ℕ) → Marking ps 0 0 ps
-marking_start ps = record { found_bound = omega arith; all_found = zero-add (bits ps); ascends = refl }
-
--- the test of one slot
-abbrev follows : ℕ → ℕ → Bool
-follows least p = leb least p && ltb p 30
+marking_start ps = record { found_bound = omega arith; all_found = zero-add (bits ps); order = refl }
 
 module _ {ps : List ℕ} {found least p : ℕ} {later : List ℕ} (s : Marking ps found least (p ∷ later)) where
   tested : (t : Bool) → follows least p ≡ t → ascending 0 ps ≡ (t && ascending (suc p) later)
   unfolding ascending
-  tested t e =
-      sym s.ascends ∙ sym (and-regroup (leb least p) (ltb p 30) (ascending (suc p) later)) ∙ ap (λ (b : Bool). b && ascending (suc p) later) e
+  tested t e = sym s.order ∙ ap (λ (b : Bool). b && ascending (suc p) later) e
 
   marked : follows least p ≡ true → Marking ps (bit_or found (1 * 2 ^ p % 2 ^ 32)) (p + 1) later
   unfolding bits
@@ -110,7 +108,7 @@ module _ {ps : List ℕ} {found least p : ℕ} {later : List ℕ} (s : Marking p
       record {
         found_bound = rw set (omega (arith, double p, below));
         all_found = rw set (omega (arith, s.all_found));
-        ascends = let up : p + 1 ≡ suc p = omega arith in ap (λ (k : ℕ). ascending k later) up ∙ sym (tested true e);
+        order = let up : p + 1 ≡ suc p = omega arith in ap (λ (k : ℕ). ascending k later) up ∙ sym (tested true e);
       }
 
 -- as code takes it, what is left after the first
@@ -124,30 +122,28 @@ marking_next {left = []} s n e = absurd (omega arith)
 marking_next {ps} {left = p ∷ later} {found} s n e =
     subst (Marking ps (bit_or found (1 * 2 ^ p % 2 ^ 32)) (p + 1)) (sym (rest_is later)) (marked s e)
 
-pub marking_wrong : {ps left : List ℕ} {found least : ℕ} → Marking ps found least left → 1 ≤ length left → follows least (get_or left 0 0) ≡ false → ascending 0 ps ≡ false
+pub marking_wrong : {ps left : List ℕ} {found least : ℕ} → Marking ps found least left → 1 ≤ length left → follows least (get_or left 0 0) ≡ false
+    → ascending 0 ps ≡ false
 marking_wrong {left = []} s n e = absurd (omega arith)
 marking_wrong {left = p ∷ later} s n e = tested s false e
 
 pub marking_end : {ps left : List ℕ} {found least : ℕ} → Marking ps found least left → length left < 1 → (ascending 0 ps ≡ true) × (found ≡ bits ps)
 unfolding bits
-marking_end {left = []} {least = least} s n = (sym s.ascends ∙ ascends-none least, omega (arith, s.all_found))
+marking_end {left = []} {least = least} s n = (sym s.order ∙ ascends-none least, omega (arith, s.all_found))
 marking_end {left = p ∷ later} s n = absurd (omega arith)
 
 -- ---- the sum: before slot i, the weights so far and those to come are together the code; the slots left are those whose bits are
 
-module _ (i : ℕ) (ps : List ℕ) (h : i < 30) where
-  at_slot : rank (30 - i) ps ≡ rank (suc (29 - i)) ps
-  at_slot = let e : 30 - i ≡ suc (29 - i) = omega arith in ap (λ (k : ℕ). rank k ps) e
-
-  rank_first : (f : First i ps) → rank (30 - i) ps ≡ rank (29 - i) f.tail
-  rank_first f = at_slot ∙ ap (rank (suc (29 - i))) f.is ∙ rank_here (29 - i) i f.tail (omega arith)
+rank_first : (i : ℕ) (ps : List ℕ) → i < 30 → (f : First i ps) → rank (30 - i) ps ≡ rank (29 - i) f.tail
+rank_first i ps h f = (λ t. rank (before_slot i h t) (f.is t)) ∙ rank_here (29 - i) i f.tail (omega arith)
 
 rank_later : (i : ℕ) (ps : List ℕ) → i < 30 → 0 < length ps → Ascends (i + 1) ps → rank (30 - i) ps ≡ choose (29 - i) (length ps - 1) + rank (29 - i) ps
 rank_later i [] h n a = absurd (omega arith)
 rank_later i (p ∷ ps) h n a =
     let f = ascends_first (i + 1) p ps a in
     let k : length (p ∷ ps) - 1 ≡ length ps = omega arith in
-    at_slot i (p ∷ ps) h ∙ rank_past (29 - i) p ps (λ q. omega (arith, f.0)) ∙ ap (λ (l : ℕ). choose (29 - i) l + rank (29 - i) (p ∷ ps)) (sym k)
+    ap (λ (s : ℕ). rank s (p ∷ ps)) (before_slot i h) ∙ rank_past (29 - i) p ps (λ q. omega (arith, f.0))
+    ∙ ap (λ (l : ℕ). choose (29 - i) l + rank (29 - i) (p ∷ ps)) (sym k)
 
 pub record Packing (ps : List ℕ) (code wanted rest i : ℕ) : Type 0 where
   pub left : List ℕ
@@ -155,7 +151,6 @@ pub record Packing (ps : List ℕ) (code wanted rest i : ℕ) : Type 0 where
   pub ascends : Ascends i left
   pub bits_are : rest ≡ bits_from i left
   pub few : wanted ≤ 6
-  pub room : code + choose (30 - i) wanted ≤ 593775
   pub sums : code + rank (30 - i) left ≡ rank 30 ps
 
 pub packing_start : (ps : List ℕ) → five_or_six (length ps) ≡ true → Ascends 0 ps → {found : ℕ} → found ≡ bits ps → Packing ps 0 (length ps) found 0
@@ -165,19 +160,8 @@ packing_start ps k a e = record {
   ascends = a;
   bits_are = e ∙ bits-first ps;
   few = few_slots ps k;
-  room = rw (zero-add (choose 30 (length ps))) (ways-most ps k);
   sums = zero-add (rank 30 ps);
 }
-
-bits-none : (i : ℕ) (ps : List ℕ) → bits_from i ps ≡ 0 → ps ≡ []
-unfolding bits_from
-bits-none i [] e = refl
-bits-none i (p ∷ ps) e = absurd (omega (arith, e, pow_pos (p - i)))
-
-bits-some : (i : ℕ) (ps : List ℕ) → (bits_from i ps ≡ 0 → ⊥) → 0 < length ps
-unfolding bits_from
-bits-some i [] n = absurd (n refl)
-bits-some i (p ∷ ps) n = omega arith
 
 module _ {ps : List ℕ} {code wanted rest i : ℕ} (s : Packing ps code wanted rest i) where
   same_bit : rest % 2 ≡ bits_from i s.left % 2
@@ -198,16 +182,6 @@ module _ {ps : List ℕ} {code wanted rest i : ℕ} (s : Packing ps code wanted 
   packing_past h = ended (none_left i s.left h s.ascends)
 
   module _ (h : i < 30) (w : 0 < wanted) {m : ℕ} (e : m ≡ choose (29 - i) (wanted - 1)) where
-    next : 30 - (i + 1) ≡ 29 - i
-    next = omega arith
-
-    ways : choose (30 - i) wanted ≡ choose (29 - i) (wanted - 1) + choose (29 - i) wanted
-    unfolding choose
-    ways =
-        let a : 30 - i ≡ suc (29 - i) = omega arith in
-        let b : wanted ≡ suc (wanted - 1) = omega arith in
-        (λ t. choose (a t) (b t)) ∙ ap (λ (k : ℕ). choose (29 - i) (wanted - 1) + choose (29 - i) k) (sym b)
-
     -- slot i has a pulse
     hit : rest % 2 ≡ 1 → Packing ps code (wanted - 1) (rest / 2) (i + 1)
     hit q =
@@ -218,8 +192,7 @@ module _ {ps : List ℕ} {code wanted rest i : ℕ} (s : Packing ps code wanted 
           ascends = f.ascends;
           bits_are = omega (arith, s.bits_are, first_odd i s.left f);
           few = omega (arith, s.few);
-          room = rw next (omega (arith, s.room, ways));
-          sums = rw next (omega (arith, s.sums, rank_first i s.left h f));
+          sums = rw (after_slot i h) (omega (arith, s.sums, rank_first i s.left h f));
         }
 
     -- or none
@@ -232,8 +205,7 @@ module _ {ps : List ℕ} {code wanted rest i : ℕ} (s : Packing ps code wanted 
           ascends = later;
           bits_are = omega (arith, s.bits_are, bits-later i s.left later);
           few = s.few;
-          room = rw next (omega (arith, s.room, ways, e));
-          sums = rw next (omega (arith, s.sums, rank_later i s.left h (omega (arith, s.many)) later, ap (λ (k : ℕ). choose (29 - i) (k - 1)) s.many, e));
+          sums = rw (after_slot i h) (omega (arith, s.sums, rank_later i s.left h (omega (arith, s.many)) later, ap (λ (k : ℕ). choose (29 - i) (k - 1)) s.many, e));
         }
 
     -- the code's sum, for a lowest bit of 1 and of 0
@@ -249,5 +221,5 @@ module _ {ps : List ℕ} {code wanted rest i : ℕ} (s : Packing ps code wanted 
         (λ (l : 0 < rest % 2). let q : rest % 2 ≡ 1 = omega arith in rw (added (rest % 2) q, q) (hit q))
         (le-or-lt (rest % 2) 0)
 
-    pub packing-most : code + (1 - rest % 2) * m ≤ 593775
-    packing-most = omega (arith, packing_next.room)
+    pub packing-most : five_or_six (length ps) ≡ true → Ascends 0 ps → code + (1 - rest % 2) * m ≤ 593775
+    packing-most k a = omega (arith, packing_next.sums, rank-most ps k a)

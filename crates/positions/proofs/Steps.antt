@@ -1,11 +1,21 @@
--- The walk from a code to its slots, one step at a time.
+-- The walk over the slots, one step at a time: before slot i there are 30 - i to be walked, after it 29 - i.
 use mathlib.Core.Path.{◌≡◌, refl, ap}
 use mathlib.Core.Bool.{Bool, true, false}
 use mathlib.Core.List.{[], ◌∷◌}
-use Prim.Native.Nat.{ℕ, zero, suc, ◌-◌, ◌≤◌, ◌<◌}
+use Prim.Native.Nat.{ℕ, zero, suc, ◌+◌, ◌-◌, ◌≤◌, ◌<◌}
+use native.Mathlib.Omega.{arith}
 use borrow.Author.Tests.{lt-ltb, le-ltb}
 use Rattle.tables.specs.Rules.{choose}
 use Rattle.positions.specs.Positions.{walk}
+
+module _ (i : ℕ) (h : i < 30) where
+  pub before_slot : 30 - i ≡ suc (29 - i)
+  before_slot = omega arith
+
+  pub after_slot : 30 - (i + 1) ≡ 29 - i
+  after_slot = omega arith
+
+-- ---- from a code to its slots
 
 pub walk_done : (s c : ℕ) → walk s 0 c ≡ []
 unfolding walk

@@ -1,4 +1,4 @@
--- The starred values of document 01 on position codes, read and written, and slots that are turned away, computed from the definitions.
+-- The starred values of document 01 on position codes, and others of document 02, E4, computed from the definitions.
 use mathlib.Core.Path.{◌≡◌, refl}
 use Rattle.std.specs.Prelude.{Some, None, Ok, Err}
 use mathlib.Core.List.{[], ◌∷◌}

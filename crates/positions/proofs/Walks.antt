@@ -1,8 +1,8 @@
--- Codes and slots: the slots of a code below its limit are as many as wanted, ascend, and have that code.
+-- Codes and slots: reading, packing, and that each undoes the other.
 use mathlib.Core.Path.{◌≡◌, refl, sym, ◌∙◌, ap}
 use mathlib.Core.Logic.{◌⊎◌, inl, inr}
 use mathlib.Core.List.{List, [], ◌∷◌}
-use Prim.Native.Nat.{ℕ, zero, suc, ◌-◌, ◌≤◌, ◌<◌}
+use Prim.Native.Nat.{ℕ, zero, suc, ◌+◌, ◌-◌, ◌≤◌, ◌<◌}
 use native.Mathlib.Omega.{arith}
 use lib.ListN.{length}
 use Rattle.integers.specs.Natural.{le-or-lt}
@@ -22,7 +22,7 @@ record IsWalk (s r c : ℕ) (ps : List ℕ) : Type 0 where
   ascend : Ascends (30 - s) ps
   code : rank s ps ≡ c
 
-pub choose-none : (s : ℕ) → choose s 0 ≡ 1
+choose-none : (s : ℕ) → choose s 0 ≡ 1
 unfolding choose
 choose-none zero = refl
 choose-none (suc s) = refl
@@ -58,6 +58,53 @@ is-walk (suc s) (suc r) c h k = decided (is-walk s r c (omega arith)) (is-walk s
         → (choose s r ≤ c) ⊎ (c < choose s r) → IsWalk (suc s) (suc r) c (walk (suc s) (suc r) c)
     decided p q (inr a) = rw (walk_hit s r c a) (is-walk_hit s r c (walk s r c) h (p a))
     decided p q (inl a) = rw (walk_miss s r c a) (is-walk_miss s r c (walk s (suc r) (c - choose s r)) h a (q (omega arith)))
+
+-- ---- reading after packing: ascending slots are those of their rank, which is below the number of ways
+
+pub record IsRank (s : ℕ) (ps : List ℕ) : Type 0 where
+  pub below : rank s ps < choose s (length ps)
+  pub read : walk s (length ps) (rank s ps) ≡ ps
+
+is-rank-none : (s : ℕ) → IsRank s []
+is-rank-none s = record { below = rw (rank-none s, choose-none s) (omega arith); read = walk_done s (rank s []) }
+
+module _ (s p : ℕ) (ps : List ℕ) where
+  is-rank_here : p ≡ 30 - suc s → IsRank s ps → IsRank (suc s) (p ∷ ps)
+  unfolding choose
+  is-rank_here e r =
+      let same = rank_here s p ps e in
+      record {
+        below = omega (arith, same, r.below);
+        read =
+            ap (walk (suc s) (suc (length ps))) same ∙ walk_hit s (length ps) (rank s ps) r.below
+            ∙ (λ i. sym e i ∷ r.read i);
+      }
+
+  is-rank_past : (p ≡ 30 - suc s → ⊥) → IsRank s (p ∷ ps) → IsRank (suc s) (p ∷ ps)
+  unfolding choose
+  is-rank_past n r =
+      let m = choose s (length ps) in
+      let same = rank_past s p ps n in
+      record {
+        below = omega (arith, same, r.below);
+        read =
+            ap (walk (suc s) (suc (length ps))) same ∙ walk_miss s (length ps) (m + rank s (p ∷ ps)) (omega arith)
+            ∙ ap (walk s (suc (length ps))) {x = m + rank s (p ∷ ps) - m} {y = rank s (p ∷ ps)} (omega arith) ∙ r.read;
+      }
+
+pub is-rank : (s : ℕ) (ps : List ℕ) → s ≤ 30 → Ascends (30 - s) ps → IsRank s ps
+is-rank s [] h a = is-rank-none s
+is-rank zero (p ∷ ps) h a = let f = ascends_first 30 p ps a in absurd (omega (arith, f.0, f.1))
+is-rank (suc s) (p ∷ ps) h a =
+    let f = ascends_first (30 - suc s) p ps a in
+    decided f.0 f.1 f.2 (is-rank s ps (omega arith)) (is-rank s (p ∷ ps) (omega arith)) (le-or-lt p (30 - suc s))
+  where
+    decided : 30 - suc s ≤ p → p < 30 → Ascends (suc p) ps → (Ascends (30 - s) ps → IsRank s ps) → (Ascends (30 - s) (p ∷ ps) → IsRank s (p ∷ ps))
+        → (p ≤ 30 - suc s) ⊎ (30 - suc s < p) → IsRank (suc s) (p ∷ ps)
+    decided l m b x y (inl q) = is-rank_here s p ps (omega arith) (x (ascends-from (suc p) (30 - s) ps (omega arith) b))
+    decided l m b x y (inr q) = is-rank_past s p ps (λ e. omega arith) (y (ascends_cons (30 - s) p ps (omega arith) m b))
+
+-- ---- the slots of a code below its limit
 
 -- the limits are the numbers of ways to choose the slots
 pub limit_ways : (n : Count) → limit n ≡ choose 30 (pulses n)

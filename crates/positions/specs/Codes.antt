@@ -9,18 +9,22 @@ pub record SlotsOf (n : Count) (ps : List ℕ) : Type 0 where
   pub many : length ps ≡ pulses n
   pub ascend : ascending 0 ps ≡ true
 
--- c is a code that reading turns into ps: it lies below the limit
+-- reading turns the code c into ps: it lies below the limit, and its slots are ps
 pub record ReadAs (n : Count) (c : ℕ) (ps : List ℕ) : Type 0 where
   pub below : c < limit n
   pub read : slots n c ≡ ps
 
--- every set of slots has one code: packing gives it, it lies below the limit, reading turns it back into these slots, and it is the only one that does so
+-- ps have one code
 pub record HasOneCode (n : Count) (ps : List ℕ) : Type 0 where
   pub code : ℕ
+  -- packing gives it
   pub packed_as : packed ps ≡ Ok code
+  -- it lies below the limit, and reading turns it back into these slots
   pub read_as : ReadAs n code ps
+  -- no other does so
   pub only : (c : ℕ) → ReadAs n c ps → c ≡ code
 
+-- every set of slots has one code
 abbrev pub OneCode : Type 0
 OneCode = (n : Count) (ps : List ℕ) → SlotsOf n ps → HasOneCode n ps
 
@@ -28,7 +32,7 @@ OneCode = (n : Count) (ps : List ℕ) → SlotsOf n ps → HasOneCode n ps
 abbrev pub OnlySlots : Type 0
 OnlySlots = (ps : List ℕ) (c : ℕ) → packed ps ≡ Ok c → (n : Count) × SlotsOf n ps
 
--- packing after reading returns any code below the limit
+-- packing after reading returns any code below the limit: its slots are a set, which is packed as that code
 abbrev pub PackedAfterReading : Type 0
 PackedAfterReading = (n : Count) (c : ℕ) → c < limit n → SlotsOf n (slots n c) × (packed (slots n c) ≡ Ok c)
 

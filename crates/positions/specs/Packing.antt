@@ -1,16 +1,20 @@
--- Position codes written (document 02, E4; the Rust's fcbk_pack_positions, which names §2.15 of G.723.1): the code of slots, and which lists of slots are turned away.
+-- Position codes written (document 02, E4; the Rust's fcbk_pack_positions, which names §2.15 of G.723.1): the code of slots, and which lists are turned away.
 use Rattle.std.specs.Prelude.{Bool, true, cond, not, ◌&&◌, ◌||◌, Result, Ok, Err, List, [], ◌∷◌, codes, ℕ, zero, suc, ◌+◌, ◌-◌, leb, ltb, eqb, length}
 use Rattle.tables.specs.Constants.{grid_slots, pulses_odd, pulses_even}
 use Rattle.tables.specs.Rules.{choose}
 use Rattle.positions.specs.declared.PackingRefusal.{PackingRefusal}
 use Rattle.positions.specs.declared.PackingRefusal.TheVariants.{WrongCount, WrongSlot}
 
--- whether slots ascend: the first is at least lo, each is greater than the one before, and none is above 29
+-- whether p may follow slots below lo: it is none of them, and not above 29
+abbrev pub follows : ℕ → ℕ → Bool
+follows lo p = leb lo p && ltb p grid_slots
+
+-- whether slots ascend from lo on: each is greater than the one before, and none is above 29
 unfoldable pub ascending : ℕ → List ℕ → Bool
 ascending lo [] = true
-ascending lo (p ∷ ps) = leb lo p && (ltb p grid_slots && ascending (suc p) ps)
+ascending lo (p ∷ ps) = follows lo p && ascending (suc p) ps
 
--- the code of ascending slots, where s of the thirty slots are still to be passed: a slot without a pulse adds its weight, which is the number of ways to choose, of the later slots, one fewer than there are pulses still to come; a slot with one adds nothing
+-- the code of ascending slots, where s of the thirty are still to be passed: each slot before the last pulse that has none adds its weight, the number of ways to choose the pulses after the next one of the later slots
 unfoldable pub rank : ℕ → List ℕ → ℕ
 rank zero ps = 0
 rank (suc s) [] = 0
@@ -37,7 +41,7 @@ abbrev pub number_of_packed : Result ℕ PackingRefusal → ℕ
 number_of_packed (Ok c) = 0
 number_of_packed (Err n) = packing_number n
 
--- the first that applies to a list of slots
+-- the first that applies to a list of slots: the tests of `packed` in the request's numbers
 unfoldable pub first_packing_number : List ℕ → ℕ
 first_packing_number ps = cond (not (five_or_six (length ps))) 12 (cond (not (ascending 0 ps)) 13 0)
 

@@ -1,11 +1,11 @@
 // Position codes, under the Rust's names (spec_tables.rs).
 #![tactic(auto)]
 
-ghost use Rattle.std.specs.Prelude.{◌≡◌, true, false, ◌&&◌, Some, MatchOption, length, leb, ltb, ◌-◌, ◌≤◌, ◌<◌};
+ghost use Rattle.std.specs.Prelude.{◌≡◌, true, false, Some, MatchOption, length, ◌-◌, ◌≤◌, ◌<◌};
 ghost use Rattle.tables.specs.Constants.{grid_slots};
 ghost use Rattle.tables.specs.Rules.{choose};
 ghost use Rattle.positions.specs.Positions.{pulses, limit, bits, positions};
-ghost use Rattle.positions.specs.Packing.{ascending, rank, five_or_six, packed, packing_number, packing_cause, number_of_packed, first_packing_number};
+ghost use Rattle.positions.specs.Packing.{follows, ascending, rank, five_or_six, packed, packing_number, packing_cause, number_of_packed, first_packing_number};
 
 use std::error::Error;
 use std::fmt;
@@ -114,9 +114,9 @@ fn is_count(n: usize) -> bool
     n == tables::MPMLQ_PULSES_ODD || n == tables::MPMLQ_PULSES_EVEN
 }
 
-// Whether a slot may follow those below `least`: it is not among them, and not above 29.
-fn follows(slot: usize, least: usize) -> bool
-    ensures { result ≡ (leb least slot && ltb slot grid_slots) }
+// Whether a slot may follow those below `least`.
+fn may_follow(least: usize, slot: usize) -> bool
+    ensures { result ≡ follows least slot }
 {
     least <= slot && slot < tables::MPMLQ_GRID_SLOTS
 }
@@ -129,7 +129,7 @@ fn slot_bits(slots: &[usize]) -> Option<u32>
     let mut least = 0;
     let mut left = slots;
     while let [slot, later @ ..] = left {
-        if !follows(*slot, least) {
+        if !may_follow(least, *slot) {
             return None;
         }
         found |= 1 << *slot;
@@ -139,8 +139,7 @@ fn slot_bits(slots: &[usize]) -> Option<u32>
     Some(found)
 }
 
-// The code of slots by their bits: in a walk over all thirty, a slot without a pulse adds its weight. The sum is formed without a
-// branch by slot.
+// The code of slots by their bits. No branch hangs on whether a slot has a pulse: it would cost more than the product.
 fn code_of(slots: &[usize], found: u32) -> u32
     requires counted { five_or_six (length slots.now) ≡ true }
     requires ascends { ascending 0 slots.now ≡ true }

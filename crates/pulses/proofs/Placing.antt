@@ -3,6 +3,7 @@ use mathlib.Core.Path.{◌≡◌, refl, sym, ap, ◌∙◌, subst}
 use mathlib.Core.Bool.{cond}
 use mathlib.Core.List.{List}
 use Prim.Native.Nat.{ℕ, ◌+◌, ◌-◌, ◌*◌, ◌/◌, ◌%◌, ◌^◌, ◌≤◌, ◌<◌}
+use native.Mathlib.Nat.{div-div-eq-div-mul}
 use native.Mathlib.Omega.{arith}
 use borrow.Author.Tests.{lt-ltb, le-ltb}
 use lib.IntN.{ℤ, pos, ◌+ℤ◌}
@@ -15,10 +16,10 @@ use Rattle.integers.specs.Bound.{within-lit, all_within-tabulate}
 use Rattle.integers.specs.Sum.{sum_step, within-sum-to}
 use Rattle.integers.specs.Fill.{tabulate-at, tabulate_ext}
 use Rattle.positions.specs.Positions.{pulses, limit, slots, bits}
-use Rattle.positions.proofs.Order.{Ascends}
+use Rattle.positions.proofs.Order.{Ascends, none_left}
 use Rattle.positions.proofs.Walks.{slots_length, slots-ascend}
-use Rattle.positions.proofs.Bits.{pulses-few}
-use Rattle.positions.proofs.BitsFrom.{bits_from, bits-first, bits-later, First, first_odd, odd_first, even-later, none_left, half}
+use Rattle.positions.proofs.Bits.{double, pulses-few}
+use Rattle.positions.proofs.BitsFrom.{bits_from, bits-first, bits-later, First, first_odd, odd_first, even-later}
 use Rattle.pulses.specs.Pulses.{size, pulse_place, signed_by, pulse, repeats, period, reaches, term, sample, vector}
 use Rattle.pulses.specs.declared.Description.{Description}
 use Rattle.pulses.proofs.Places.{pulse-place-below}
@@ -26,6 +27,9 @@ use Rattle.pulses.proofs.Sizes.{abs-pulse, size-most}
 use Rattle.pulses.proofs.Repeats.{repeats-reaches}
 
 -- ---- the loop over the slots: before one, v has the first `passed` pulses, and the bits of found from there on are those of the other slots
+
+half : (n i : ℕ) → n / 2 ^ (i + 1) ≡ n / 2 ^ i / 2
+half n i = let e : 2 ^ (i + 1) ≡ 2 ^ i * 2 = omega (arith, double i) in ap (λ (m : ℕ). n / m) e ∙ sym (div-div-eq-div-mul n (2 ^ i) 2)
 
 -- what the first k pulses add to sample j
 abbrev pub part : Description → ℕ → ℕ → ℤ

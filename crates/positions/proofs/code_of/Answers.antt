@@ -15,7 +15,8 @@ loop-slot-preserved c =
 pub overflow_add-code : goal.overflow_add-code
 overflow_add-code c =
     let s = c.loop-slot.invariant in
-    omega (arith, packing-most s c.loop-slot-test.true (packing_some s c.if-rest-eq0.false) c.comb_weight.ensures)
+    omega
+    (arith, packing-most s c.loop-slot-test.true (packing_some s c.if-rest-eq0.false) c.comb_weight.ensures c.requires.counted c.requires.ascends)
 
 pub overflow_sub-wanted : goal.overflow_sub-wanted
 overflow_sub-wanted c = omega (arith, packing_some c.loop-slot.invariant c.if-rest-eq0.false)
