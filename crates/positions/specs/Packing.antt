@@ -14,7 +14,7 @@ unfoldable pub ascending : ℕ → List ℕ → Bool
 ascending lo [] = true
 ascending lo (p ∷ ps) = follows lo p && ascending (suc p) ps
 
--- the code of ascending slots, where s of the thirty are still to be passed: each slot before the last pulse that has none adds its weight, the number of ways to choose the pulses after the next one of the later slots
+-- the code of ascending slots, where s of the thirty are still to be passed: with r pulses still to come, a slot without one adds its weight, the number of ways to choose r - 1 of the later slots; after the last pulse nothing is added
 unfoldable pub rank : ℕ → List ℕ → ℕ
 rank zero ps = 0
 rank (suc s) [] = 0
