@@ -4,6 +4,7 @@
  * here. All numbers are wide integers; a limit is applied where a document or the Rust has one that can act. Signals
  * are arrays over time: the past that the state holds, then the frame.
  */
+#include "choose.h"
 #include "decoder.h"
 #include "tables.h"
 
@@ -355,15 +356,6 @@ static void take_candidates(struct frame *f, const unsigned char *record)
         else
             f->lsp[i] = word(record + BYTE_LSP + 2 * i);
     }
-}
-
-/* "Pulses": the ways to choose k of n, each from the one before. */
-static int64_t choose(int64_t n, int64_t k)
-{
-    int64_t ways = 1;
-    for (int64_t i = 1; i <= k; i++)
-        ways = ways * (n - i + 1) / i;
-    return ways;
 }
 
 /* "Pulses": the slots of a code; 0 if it has none. */

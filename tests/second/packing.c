@@ -9,18 +9,10 @@
 #include <stdint.h>
 #include <stdio.h>
 
+#include "choose.h"
 #include "places.h"
 
 enum { ROW = 8, WRONG_COUNT = 12, WRONG_SLOT = 13 };
-
-/* The ways to choose k of n. */
-static int64_t choose(int64_t n, int64_t k)
-{
-    int64_t ways = 1;
-    for (int64_t i = 1; i <= k; i++)
-        ways = ways * (n - i + 1) / i;
-    return ways;
-}
 
 /* Whether a slot is above 29, or not greater than the one before. */
 static int has_wrong_slot(const uint64_t *slots, int n)
