@@ -33,7 +33,7 @@ module _ (x : List ℤ) (p l : ℕ) where
       rw (le-ltb (m - l) 2 (omega arith), le-ltb m 2 (omega arith), turned)
 
   -- the sum of a sample's products, where what the taps read is kept for all sixty samples and four more
-  delayed-sum : (taps : List ℤ) (n : ℕ) → n < 60 →
+  pub delayed-sum : (taps : List ℤ) (n : ℕ) → n < 60 →
       correlation taps 0 (tabulate (delayed x p l) 64) n acb_taps ≡ sum_to (λ j. entry taps j *ℤ delayed x p l (n + j)) acb_taps
   delayed-sum taps n h =
       correlation-is taps 0 (tabulate (delayed x p l) 64) n acb_taps

@@ -25,6 +25,12 @@ pub correlation-is : (x : List ℤ) (a : ℕ) (y : List ℤ) (b n : ℕ) → cor
 unfolding correlation
 correlation-is x a y b n = refl
 
+pub bounded-start : (f : ℕ → ℤ) → Within (0 * 2 ^ 30) (sum_to f 0)
+bounded-start f = record { within = rw (sum-zero f) (omega arith) }
+
+pub bounded-next : (f : ℕ → ℤ) (n : ℕ) → Within (n * 2 ^ 30) (sum_to f n) → Within (2 ^ 30) (f n) → Within ((n + 1) * 2 ^ 30) (sum_to f (n + 1))
+bounded-next f n s t = record { within = rw (sum_step f n) (omega (arith, (within-add s t).within)) }
+
 -- acc is the sum of n numbers of f, each within B
 pub record Summed (B : ℕ) (f : ℕ → ℤ) (acc : ℤ) (n : ℕ) : Type 0 where
   pub is : acc ≡ sum_to f n

@@ -7,12 +7,13 @@ use native.Mathlib.Nat.{eq-or-lt_of_le, le_refl, le_trans}
 use native.Mathlib.Omega.{arith}
 use lib.Dec.{lit≤}
 use lib.IntN.{ℤ, pos, negsuc, nat_abs, ◌+ℤ◌, ◌*ℤ◌}
-use lib.ListN.{replicate}
+use lib.ListN.{length, replicate}
+use lib.Seq.{get_or-take}
 use mir.Syntax.{w16, w32}
-use Rattle.integers.specs.Base.{saturated, floor_div, sum_to, entry, tabulate, Within, AllFit}
+use Rattle.integers.specs.Base.{saturated, floor_div, sum_to, entry, tabulate, Within, AllFit, Fills}
 use Rattle.integers.specs.Bound.{within-add, within-mul, within-fits, within_num, within-le, within-shr-by, all_within-tabulate, fits-within}
 use Rattle.integers.specs.Sum.{sum_step, sum_ext}
-use Rattle.integers.specs.Fill.{tabulate-at, tabulate_ext}
+use Rattle.integers.specs.Fill.{tabulate-at, tabulate_ext, take-tabulate, entries_all}
 use Rattle.tables.specs.Tables.{postfilter_zeros}
 use Rattle.basicop.specs.Operators.{mult16}
 use Rattle.synthesis.specs.Synthesis.{prediction}
@@ -94,11 +95,11 @@ module _ (y memory : List ℤ) where
   placed m = entry (inputs y memory 60) (69 - m)
 
   -- it begins with the memory
-  placed_memory : (m : ℕ) → m < 10 → placed m ≡ entry memory (9 - m)
+  pub placed_memory : (m : ℕ) → m < 10 → placed m ≡ entry memory (9 - m)
   placed_memory m h = inputs_shift y memory 0 60 (9 - m) 60 (69 - m) (omega arith) (omega arith) ∙ ap (λ (q : List ℤ). entry q (9 - m)) (inputs-zero y memory)
 
   -- and goes on with the subframe
-  placed_input : (m : ℕ) → 10 ≤ m → m < 70 → placed m ≡ entry y (m - 10)
+  pub placed_input : (m : ℕ) → 10 ≤ m → m < 70 → placed m ≡ entry y (m - 10)
   placed_input m h k = inputs_shift y memory (suc (m - 10)) (69 - m) 0 60 (69 - m) (omega arith) (omega arith) ∙ inputs-newest y memory (m - 10)
 
   pub memory_placed : (m : ℕ) → m < 10 → entry memory (9 - m) ≡ placed m
@@ -113,3 +114,32 @@ module _ (y memory : List ℤ) where
       tabulate_ext (λ n. sum_to (term w (tabulate placed 70) n) 10) (λ n. prediction w (inputs y memory n)) 60
       (λ n h. sum_ext (term w (tabulate placed 70) n) (λ j. entry w j *ℤ entry (inputs y memory n) j) 10
       (λ j k. ap (λ (z : ℤ). entry w j *ℤ z) (tabulate-at placed 70 (n + (9 - j)) (pos 0) (omega arith) ∙ inputs_shift y memory n (60 - n) j 60 (69 - (n + (9 - j))) (omega arith) (omega arith))))
+
+-- the memory that a line begins with
+abbrev pub memory_of : List ℤ → List ℤ
+memory_of line = tabulate (λ i. entry line (9 - i)) 10
+
+pub memory_of_lem : (memory line : List ℤ) → length memory ≡ 10 → Fills (λ m. entry memory (9 - m)) 70 line 10 → memory_of line ≡ memory
+memory_of_lem memory line e f =
+    tabulate_ext (λ i. entry line (9 - i)) (entry memory) 10
+    (λ i h.
+    let m : 9 - i < 10 = omega arith in
+    let back : 9 - (9 - i) ≡ i = omega arith in
+    sym (get_or-take 10 line (9 - i) (pos 0) m)
+    ∙ ap (λ (q : List ℤ). entry q (9 - i)) f.front
+    ∙ tabulate-at (λ m. entry memory (9 - m)) 10 (9 - i) (pos 0) m
+    ∙ ap (entry memory) back)
+    ∙ entries_all (pos 0) memory 10 e
+
+pub line-start : (y line : List ℤ) → length line ≡ 70 → Fills (placed y (memory_of line)) 70 line 10
+line-start y line e = record {
+  bound = lit≤ tt;
+  len = e;
+  front =
+      take-tabulate (pos 0) line 10 (omega arith)
+      ∙ tabulate_ext (entry line) (placed y (memory_of line)) 10
+      (λ i h.
+      let m : 9 - i < 10 = omega arith in
+      let back : i ≡ 9 - (9 - i) = omega arith in
+      ap (entry line) back ∙ sym (tabulate-at (λ i. entry line (9 - i)) 10 (9 - i) (pos 0) m) ∙ sym (placed_memory y (memory_of line) i h));
+}

@@ -6,7 +6,7 @@ use Rattle.integers.specs.Base.{limited}
 use Rattle.integers.specs.Linear.{line}
 
 module _ (lo hi z : ℤ) where
-  -- ---- its three cases, in the order in which code tests them
+  -- ---- its three cases: below lo, else above hi, else between
 
   pub limited-low : lt_z z lo ≡ true → lo ≡ limited lo hi z
   limited-low h = sym (ap (λ (b : Bool). cond b lo (cond (lt_z hi z) hi z)) h)

@@ -84,7 +84,7 @@ clamped M (negsuc n) = grind (arith, nat_tests)
 pub clamp-is : {w : Width} (M : ℕ) {x r : ℤ} → SFits w x → r ≡ int_max (negsuc M) (int_min (to_z w (of_z w x)) (pos M)) → r ≡ saturated M x
 clamp-is {w} M {x} f e = e ∙ clamped M (to_z w (of_z w x)) ∙ ap (saturated M) (to_z-of_z f)
 
--- ---- the same by two tests, to width w', whose largest number is M: what its tests say of x's bits, and what each arm returns
+-- ---- its three cases, told by x's bits at width w; in the last, x's bits at width w', whose largest number is M
 
 module _ (w w' : Width) (M : ℕ) (m : T (ltb M (2 ^ hbits w'))) {x : ℤ} (f : SFits w x) where
   pub arm_above : lt_z (pos M) (to_z w (of_z w x)) ≡ true → pos M ≡ saturated M x

@@ -1,4 +1,4 @@
--- The size of a signed number as code takes it: its negative in a wider type, so that the least number has one.
+-- The size of a signed number by its negative in a wider type, in which the least number has one too.
 use Rattle.std.specs.Prelude.{◌≡◌, true, false, ◌+◌, ◌^◌, T, leb, ltb, ℤ, pos, nat_abs, neg_ℤ, ◌-ℤ◌}
 use Rattle.std.proofs.Common.{sym, ap, ◌∙◌, subst, to_z-of_z}
 use Rattle.std.specs.Int.Signed.{lt_z, non_neg}

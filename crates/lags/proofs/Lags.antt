@@ -1,16 +1,35 @@
--- Laws of lags: when they count.
+-- Laws of lags: where their samples stand, and when they count.
 use mathlib.Core.Path.{◌≡◌, ap, ◌∙◌}
 use mathlib.Core.Bool.{Bool, true, false, ◌&&◌, and-false}
 use mathlib.Core.List.{List}
 use Prim.Native.Nat.{ℕ, ◌+◌, ◌≤◌, ◌<◌}
+use native.Mathlib.Omega.{arith}
 use borrow.Author.Tests.{leb-true, le-leb, lt-leb}
 use lib.Dec.{leb}
 use lib.IntN.{ℤ, pos}
 use lib.Signed.{lt_z}
 use Rattle.integers.specs.Linear.{line, line-abs}
 use Rattle.lags.specs.Lags.{window, lag_correlation, lag_energy, counts, d}
+use Rattle.lags.specs.Search.{next}
 use Rattle.lags.specs.declared.Direction.{Direction}
+use Rattle.lags.specs.declared.Direction.TheVariants.{Forward, Backward}
 use Rattle.integers.specs.Truth.{both}
+
+-- ---- where its samples stand
+
+pub window-most : (to : Direction) (p m : ℕ) → window to p m ≤ p + m
+window-most Forward p m = omega arith
+window-most Backward p m = omega arith
+
+pub window-above : (to : Direction) (p m : ℕ) → m < p → 0 < window to p m
+window-above Forward p m h = omega arith
+window-above Backward p m h = omega arith
+
+pub window-next : (to : Direction) (p m : ℕ) → next to (window to p m) ≡ window to p (m + 1)
+window-next Forward p m = omega arith
+window-next Backward p m = omega arith
+
+-- ---- when it counts
 
 module _ (x : List ℤ) (to : Direction) (p m : ℕ) where
   abbrev inside : Bool

@@ -1,5 +1,5 @@
 -- Laws of the search: what leads after one lag more.
-use mathlib.Core.Path.{◌≡◌, sym, ◌∙◌, subst}
+use mathlib.Core.Path.{◌≡◌, refl, sym, ◌∙◌, subst}
 use mathlib.Core.Bool.{Bool, true, false}
 use mathlib.Core.List.{List}
 use mathlib.Core.Logic.{⊎_elim}
@@ -19,7 +19,7 @@ use Rattle.lags.proofs.Lags.{counted-inside, counted-loud}
 
 -- ---- the order of c²/d
 
-ltb_asym : (a b : ℕ) → ltb a b ≡ true → ltb b a ≡ false
+pub ltb_asym : (a b : ℕ) → ltb a b ≡ true → ltb b a ≡ false
 ltb_asym a b h = le-ltb b a (let k = ltb-true a b h in omega arith)
 
 -- where m is no less than j and n above m, n is above j
@@ -88,6 +88,14 @@ module _ (x : List ℤ) (to : Direction) (p lo k : ℕ) where
     pub leads_beaten : (best : Option Best) → Leads x to p lo k best → beats best v w ≡ true → Leads x to p lo (k + 1) (Some (record { lag = n; c = v; d = w }))
     leads_beaten None l e = takes h a b (λ j q t. clash t (l j q))
     leads_beaten (Some best) l e = takes h a b (λ j q t. exceeds_trans x to p n best.lag (lo + j) t (l.unexceeded j q t) (beats-is true best l e))
+
+    pub leads_unbeaten : (best : Option Best) → Leads x to p lo k best → beats best v w ≡ false → Leads x to p lo (k + 1) best
+    leads_unbeaten None l e = clash refl e
+    leads_unbeaten (Some best) l e = stays l (λ t. beats-is false best l e)
+
+-- of no lags none leads
+pub leads-start : (x : List ℤ) (to : Direction) (p lo : ℕ) → Leads x to p lo 0 None
+leads-start x to p lo j h = absurd (let z : ⊥ = omega arith in z)
 
 -- ---- the samples of what leads lie in the signal
 

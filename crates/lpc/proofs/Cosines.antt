@@ -1,19 +1,32 @@
 -- Laws of the interpolated cosine: its size, and that none of the operators that make it saturates.
-use mathlib.Core.Path.{◌≡◌, ap, ◌∙◌, subst}
+use mathlib.Core.Path.{◌≡◌, refl, ap, ◌∙◌, subst}
+use mathlib.Core.Bool.{true, false}
 use Prim.Native.Nat.{ℕ, ◌+◌, ◌*◌, ◌/◌, ◌%◌, ◌^◌, ◌≤◌, ◌<◌}
 use native.Mathlib.Omega.{arith}
 use lib.Dec.{lit≤}
-use lib.IntN.{ℤ, pos, ◌+ℤ◌, ◌-ℤ◌, ◌*ℤ◌}
+use lib.IntN.{ℤ, pos, negsuc, nat_abs, ◌+ℤ◌, ◌-ℤ◌, ◌*ℤ◌}
+use lib.Signed.{lt_z}
 use mir.Syntax.{w16}
 use mir.Val.{SFits}
 use Rattle.integers.specs.Base.{floor_div, entry, up, Within}
 use Rattle.integers.specs.Bound.{fits-within, within-add, within-mul, within-le, within-shr-by}
+use Rattle.integers.specs.Natural.{none-below-zero}
+use Rattle.integers.specs.Signed.{natural}
 use Rattle.integers.specs.Linear.{mul_pos, line, line-mul, line-shr, line-fits}
 use Rattle.integers.specs.Saturation.{saturated-same}
 use Rattle.tables.specs.Tables.{cosines}
 use Rattle.tables.proofs.Rules.{cosine_rule}
 use Rattle.basicop.specs.Operators.{word16, add16, sub16, mult16, shl16}
 use Rattle.lpc.specs.Lpc.{cosine_between, cosine}
+
+-- ---- a negative LSP is read as 0
+
+pub up-negative : (z : ℤ) → lt_z z (pos 0) ≡ true → 0 ≡ up z
+up-negative (pos n) h = none-below-zero n h
+up-negative (negsuc n) h = refl
+
+pub up-nonneg : (z : ℤ) → lt_z z (pos 0) ≡ false → nat_abs z ≡ up z
+up-nonneg z h = (natural z (omega line)).2
 
 -- ---- sizes
 
@@ -27,10 +40,10 @@ next-within i h =
     subst (λ (k : ℕ). Within 201 (entry cosines k -ℤ entry cosines i)) e (cosine_rule i (omega arith)).next
 
 module _ (d : ℤ) (r : ℕ) (s : Within 201 d) (h : r < 128) where
-  step-within : Within 201 (floor_div (d *ℤ pos r) 128)
+  pub step-within : Within 201 (floor_div (d *ℤ pos r) 128)
   step-within = within-shr-by 201 128 (lit≤ tt) (within-le (within-mul {B = 128} s (record { within = omega arith })) (omega arith))
 
-cosine-between-within : (i r : ℕ) → i ≤ 255 → r < 128 → Within 16585 (cosine_between i r)
+pub cosine-between-within : (i r : ℕ) → i ≤ 255 → r < 128 → Within 16585 (cosine_between i r)
 cosine-between-within i r h k = within-add (cosine_rule i (omega arith)).size (step-within (entry cosines (i + 1) -ℤ entry cosines i) r (next-within i h) k)
 
 pub cosine-within : (f : ℤ) → SFits w16 f → Within 16585 (cosine f)

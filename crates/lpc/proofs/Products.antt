@@ -40,7 +40,7 @@ product-step c k n = tabulate_ext _ _ n (λ i h. times_entry (product c k) (c k)
 
 -- ---- bounds
 
-before-within : {B : ℕ} {f : ℕ → ℤ} → ((i : ℕ) → Within B (f i)) → (i d : ℕ) → Within B (coefficient_before f i d)
+pub before-within : {B : ℕ} {f : ℕ → ℤ} → ((i : ℕ) → Within B (f i)) → (i d : ℕ) → Within B (coefficient_before f i d)
 before-within {B} {f} h i d = cond_elim (ltb i d) (pos 0) (f (i - d)) (Within B) (λ t. record { within = omega arith }) (λ t. h (i - d))
 
 times_within : (B : ℕ) {f : ℕ → ℤ} {c : ℤ} → ((i : ℕ) → Within B (f i)) → Within (2 ^ 15) c → (i : ℕ) → Within (B * 6) (times_factor f c i)

@@ -1,5 +1,5 @@
 -- The attenuation as the Rust computes it: each frame has 3/4 of the one before, until mute.
-use Rattle.std.proofs.Common.{◌≡◌, ℕ, zero, suc, ◌*◌, ◌/◌, ◌<◌, refl, arith}
+use Rattle.std.proofs.Common.{◌≡◌, ℕ, zero, suc, ◌*◌, ◌/◌, ◌<◌, ◌≤◌, refl, arith, lit≤}
 use Rattle.tables.specs.Constants.{erasure_attenuation, erasure_mute_after}
 use Rattle.noise.specs.Noise.{attenuation}
 
@@ -15,3 +15,10 @@ attenuation_mute (suc zero) h = absurd (let z : ⊥ = omega arith in z)
 attenuation_mute (suc (suc zero)) h = absurd (let z : ⊥ = omega arith in z)
 attenuation_mute (suc (suc (suc zero))) h = absurd (let z : ⊥ = omega arith in z)
 attenuation_mute (suc (suc (suc (suc n)))) h = refl
+
+pub attenuation-most : (n : ℕ) → attenuation n ≤ 32768
+attenuation-most zero = lit≤ tt
+attenuation-most (suc zero) = lit≤ tt
+attenuation-most (suc (suc zero)) = lit≤ tt
+attenuation-most (suc (suc (suc zero))) = lit≤ tt
+attenuation-most (suc (suc (suc (suc n)))) = lit≤ tt

@@ -1,3 +1,4 @@
 pub mod Words
 pub mod Attenuation
+pub mod Bounds
 pub mod Values

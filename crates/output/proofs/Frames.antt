@@ -2,12 +2,12 @@
 use mathlib.Core.Path.{◌≡◌, refl, ap, ◌∙◌}
 use mathlib.Core.Bool.{Bool, cond}
 use mathlib.Core.List.{List, [], ◌++◌, append-nil}
-use Prim.Native.Nat.{ℕ, zero, suc, ◌+◌, ◌*◌}
+use Prim.Native.Nat.{ℕ, zero, suc, ◌+◌, ◌*◌, ◌≤◌}
 use native.Mathlib.Numerals.{add-one}
 use native.Mathlib.Omega.{arith}
 use borrow.Author.Tests.{eq-eqb, ne_eqb}
 use lib.Dec.{eqb}
-use lib.ListN.{length, take, drop, get_or, length-append, drop_of_length-le}
+use lib.ListN.{length, take, drop, get_or, length-append, length-drop, drop_of_length-le}
 use lib.Seq.{drop-drop}
 use lib.IntN.{ℤ}
 use Rattle.integers.specs.Lent.{lent}
@@ -56,6 +56,10 @@ module _ (on : Bool) (sets inputs : List (List ℤ)) (f : Filters) where
       let n : 60 * (k + 1) ≡ 60 * k + 60 = omega arith in
       rw (hm, e, n, output-step k, ← drop-drop 60 (60 * k) o)
       (lent (output_to on sets inputs f k) (drop (60 * k) o) (output_at k) (60 * k) 60 (output-to-length k))
+
+  pub written-length : (o : List ℤ) (k : ℕ) → length o ≡ 240 → k ≤ 4 → length (written o k) ≡ 240
+  written-length o k e h =
+      length-append (output_to on sets inputs f k) (drop (60 * k) o) ∙ omega (arith, output-to-length k, length-drop (60 * k) o)
 
   pub written_end : (o : List ℤ) (k : ℕ) → length o ≡ 240 → k ≡ 4 → written o k ≡ output_to on sets inputs f 4
   written_end o k e h =

@@ -15,7 +15,7 @@ pub grid_bit : (g : Bool) → bool_byte g ≡ cond g 1 0
 grid_bit true = refl
 grid_bit false = refl
 
-grid-most : (g : Bool) → cond g 1 0 ≤ 1
+pub grid-most : (g : Bool) → cond g 1 0 ≤ 1
 grid-most true = omega arith
 grid-most false = omega arith
 

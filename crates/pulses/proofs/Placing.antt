@@ -26,9 +26,10 @@ use Rattle.pulses.proofs.Places.{pulse-place-below}
 use Rattle.pulses.proofs.Sizes.{abs-pulse, size-most}
 use Rattle.pulses.proofs.Repeats.{repeats-reaches}
 
--- ---- the loop over the slots: before one, v has the first `passed` pulses, and the bits of found from there on are those of the other slots
+-- ---- the loop over the slots: v has the first `passed` pulses, and the bits left are those of the other slots
 
-half : (n i : ℕ) → n / 2 ^ (i + 1) ≡ n / 2 ^ i / 2
+-- the bits that are left past one slot more
+pub half : (n i : ℕ) → n / 2 ^ (i + 1) ≡ n / 2 ^ i / 2
 half n i = let e : 2 ^ (i + 1) ≡ 2 ^ i * 2 = omega (arith, double i) in ap (λ (m : ℕ). n / m) e ∙ sym (div-div-eq-div-mul n (2 ^ i) 2)
 
 -- what the first k pulses add to sample j
@@ -43,11 +44,11 @@ term-within d j i =
 abbrev pub others : Description → ℕ → List ℕ
 others d k = drop k (slots d.count d.code)
 
-pub record Placing (d : Description) (v : List ℤ) (found left slot : ℕ) : Type 0 where
+pub record Placing (d : Description) (v : List ℤ) (rest left slot : ℕ) : Type 0 where
   pub passed : ℕ
   pub count : passed + left ≡ pulses d.count
   pub is : v ≡ tabulate (part d passed) 60
-  pub bits_are : found / 2 ^ slot ≡ bits_from slot (others d passed)
+  pub bits_are : rest ≡ bits_from slot (others d passed)
   pub ascends : Ascends slot (others d passed)
 
 others-length : (d : Description) (k : ℕ) → d.code < limit d.count → length (others d k) ≡ pulses d.count - k
@@ -56,29 +57,29 @@ others-length d k h = length-drop k (slots d.count d.code) ∙ ap (λ (n : ℕ).
 module _ {d : Description} (h : d.code < limit d.count) where
   pub placing_start : {found left : ℕ} → found ≡ bits (slots d.count d.code) → left ≡ pulses d.count → Placing d (replicate 60 (pos 0)) found left 0
   unfolding tabulate sum_to
-  placing_start {found} e l = record {
+  placing_start e l = record {
     passed = 0;
     count = omega arith;
     is = refl;
-    bits_are = let one : found / 2 ^ 0 ≡ found = omega arith in one ∙ e ∙ bits-first (slots d.count d.code);
+    bits_are = e ∙ bits-first (slots d.count d.code);
     ascends = slots-ascend d.count d.code h;
   }
 
-  module _ {v : List ℤ} {found left slot : ℕ} (r : Placing d v found left slot) where
+  module _ {v : List ℤ} {rest left slot : ℕ} (r : Placing d v rest left slot) where
     abbrev k : ℕ
     k = r.passed
 
-    low_bit : found / 2 ^ slot % 2 ≡ bits_from slot (others d k) % 2
+    low_bit : rest % 2 ≡ bits_from slot (others d k) % 2
     low_bit = ap (λ (n : ℕ). n % 2) r.bits_are
 
     -- a slot without a pulse
-    pub placing_miss : (found / 2 ^ slot % 2 ≡ 1 → ⊥) → Placing d v found left (slot + 1)
+    pub placing_miss : (rest % 2 ≡ 1 → ⊥) → Placing d v (rest / 2) left (slot + 1)
     placing_miss e =
         let later = even-later slot (others d k) r.ascends (λ q. e (low_bit ∙ q)) in
-        record { passed = k; count = r.count; is = r.is; bits_are = half found slot ∙ omega (arith, r.bits_are, bits-later slot (others d k) later); ascends = later }
+        record { passed = k; count = r.count; is = r.is; bits_are = omega (arith, r.bits_are, bits-later slot (others d k) later); ascends = later }
 
     -- a slot with one: it is the k-th
-    module _ (e : found / 2 ^ slot % 2 ≡ 1) where
+    module _ (e : rest % 2 ≡ 1) where
       first : First slot (others d k)
       first = odd_first slot (others d k) r.ascends (sym low_bit ∙ e)
 
@@ -120,14 +121,14 @@ module _ {d : Description} (h : d.code < limit d.count) where
           tail-is = ap (drop 1) (sym first.is) ∙ drop-drop 1 k (slots d.count d.code)
 
           pub placing_hit : {w : List ℤ} → w ≡ tabulate (λ j. entry v j +ℤ cond (repeats step (2 * slot + grid) j) amp (pos 0)) 60
-              → Placing d w found (left - 1) (slot + 1)
+              → Placing d w (rest / 2) (left - 1) (slot + 1)
           placing_hit q =
-              let b : found / 2 ^ slot / 2 ≡ bits_from (slot + 1) first.tail = omega (arith, r.bits_are, first_odd slot (others d k) first) in
+              let b : rest / 2 ≡ bits_from (slot + 1) first.tail = omega (arith, r.bits_are, first_odd slot (others d k) first) in
               record {
                 passed = k + 1;
                 count = omega (arith, r.count, placing_left.0);
                 is = q ∙ tabulate_ext _ _ 60 added;
-                bits_are = half found slot ∙ b ∙ ap (bits_from (slot + 1)) tail-is;
+                bits_are = b ∙ ap (bits_from (slot + 1)) tail-is;
                 ascends = subst (Ascends (slot + 1)) tail-is first.ascends;
               }
 

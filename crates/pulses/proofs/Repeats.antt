@@ -124,6 +124,12 @@ module _ {v : List ℤ} {amp : ℤ} {p step : ℕ} where
             (λ (n : i < j). at_earlier i k n) (le-or-lt j i);
       }
 
+    pub repeating_end : 60 ≤ j → out ≡ tabulate (λ i. entry v i +ℤ cond (repeats step p i) amp (pos 0)) 60
+    repeating_end h =
+        let f : ℕ → ℤ = λ i. entry v i +ℤ cond (repeats step p i) amp (pos 0) in
+        ext_get_or (pos 0) out (tabulate f 60) (r.len ∙ sym (tabulate-length f 60))
+        (λ i k. let l : i < 60 = omega (arith, r.len) in r.at i l ∙ below v amp p step i j (omega arith) ∙ sym (tabulate-at f 60 i (pos 0) l))
+
 -- ---- the loop of the code, which reads and writes 32 bits: five pulses at most are there before
 
 module _ {v : List ℤ} {amp : ℤ} {p step : ℕ} {out : List ℤ} {j : ℕ} (r : Repeating v (to_z w32 (of_z w32 amp)) p step out j) where
@@ -144,9 +150,5 @@ module _ {v : List ℤ} {amp : ℤ} {p step : ℕ} {out : List ℤ} {j : ℕ} (r
         → Repeating v (to_z w32 (of_z w32 amp)) p step (set out j (to_z w32 (of_z w32 (to_z w32 (of_z w32 (entry out j)) +ℤ to_z w32 (of_z w32 amp))))) (j + step)
     repeating_sum s = repeating_next r h s (to_z-of_z {w = w32} sum_fits ∙ (λ i. still i +ℤ to_z w32 (of_z w32 amp)))
 
-  pub repeating_end : Within unvoiced_gain_max amp → 60 ≤ j → out ≡ tabulate (λ i. entry v i +ℤ cond (repeats step p i) amp (pos 0)) 60
-  repeating_end w h =
-      let f : ℕ → ℤ = λ i. entry v i +ℤ cond (repeats step p i) (to_z w32 (of_z w32 amp)) (pos 0) in
-      ext_get_or (pos 0) out (tabulate f 60) (r.len ∙ sym (tabulate-length f 60))
-      (λ i k. let l : i < 60 = omega (arith, r.len) in r.at i l ∙ below v (to_z w32 (of_z w32 amp)) p step i j (omega arith) ∙ sym (tabulate-at f 60 i (pos 0) l))
-      ∙ (λ t. tabulate (λ i. entry v i +ℤ cond (repeats step p i) (kept w t) (pos 0)) 60)
+  pub repeating_sum_end : Within unvoiced_gain_max amp → 60 ≤ j → out ≡ tabulate (λ i. entry v i +ℤ cond (repeats step p i) amp (pos 0)) 60
+  repeating_sum_end w h = repeating_end r h ∙ (λ t. tabulate (λ i. entry v i +ℤ cond (repeats step p i) (kept w t) (pos 0)) 60)

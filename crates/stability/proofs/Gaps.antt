@@ -78,6 +78,9 @@ module _ (m : ℤ) (p : List ℤ) where
       let f = any_false_each (λ j. short m (pass_to m p j) j) 9 e in
       each_false_any (short m p) 9 (λ j h. ap (λ (q : List ℤ). short m q j) (sym (still j (λ k g. f k (omega arith)))) ∙ f j h)
 
+  pub spaced_same : any_short m p ≡ false → pass m p ≡ p
+  spaced_same e = still 9 (unmoved 9 (any_false_each (short m p) 9 e))
+
   spaced_unmoved : any_short m p ≡ false → pass_moves m p ≡ false
   spaced_unmoved e = each_false_any (λ j. short m (pass_to m p j) j) 9 (unmoved 9 (any_false_each (short m p) 9 e))
 

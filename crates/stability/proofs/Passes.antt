@@ -5,6 +5,24 @@ use Rattle.std.proofs.Math.Bool.{or_assoc, or-true, or-false}
 use Rattle.std.specs.List.{list_any, range_with_len}
 use Rattle.stability.specs.Stability.{short, spread, pass_to, any_to, pass, pass_moves, passes}
 
+-- ---- by steps
+
+pub pass-zero : (m : ℤ) (p : List ℤ) → pass_to m p 0 ≡ p
+unfolding pass_to
+pass-zero m p = refl
+
+pub pass_step : (m : ℤ) (p : List ℤ) (j : ℕ) → pass_to m p (j + 1) ≡ cond (short m (pass_to m p j) j) (spread m (pass_to m p j) j) (pass_to m p j)
+unfolding pass_to
+pass_step m p j = ap (pass_to m p) (add-one j)
+
+pub any_zero : (t : ℕ → Bool) → any_to t 0 ≡ false
+unfolding any_to
+any_zero t = refl
+
+pub any_step : (t : ℕ → Bool) (j : ℕ) → any_to t (j + 1) ≡ (any_to t j || t j)
+unfolding any_to
+any_step t j = ap (any_to t) (add-one j)
+
 -- ---- a pass under way
 
 module _ (m : ℤ) (p : List ℤ) where

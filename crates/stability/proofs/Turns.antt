@@ -12,7 +12,7 @@ use Rattle.tables.specs.Constants.{stability_passes}
 use Rattle.stability.specs.declared.Outcome.TheVariants.{Untouched, Moved, Previous}
 use Rattle.stability.specs.Stability.{pass, pass_moves, any_short, passes, outcome_of, stabilised}
 use Rattle.stability.proofs.Passes.{turn, no_turn}
-use Rattle.stability.proofs.Gaps.{unmoved_spaced, outcome_is}
+use Rattle.stability.proofs.Gaps.{unmoved_spaced, spaced_same, outcome_is}
 
 -- ---- what a pass hands back
 
@@ -66,8 +66,12 @@ module _ (m : ℤ) (p : List ℤ) where
           by true z = sym (outcome_is m p (ap (pass_moves m) (sym (t.first (eqb-true n 0 z))) ∙ e) refl)
           by false z = sym (outcome_is m p (t.later (let k = eqb-false n 0 z in omega (arith, k))) met)
 
-      pub still_end : record { lsps = q; outcome = cond (eqb n 0) Untouched Moved } ≡ stabilised m p
-      still_end = λ i. record { lsps = sym all_passes i; outcome = outcome_still i }
+      pub unmoved_end : record { lsps = q; outcome = cond (eqb n 0) Untouched Moved } ≡ stabilised m p
+      unmoved_end = λ i. record { lsps = sym all_passes i; outcome = outcome_still i }
+
+      -- and what that pass made
+      pub still_end : record { lsps = pass m q; outcome = cond (eqb n 0) Untouched Moved } ≡ stabilised m p
+      still_end = λ i. record { lsps = (spaced_same m q (unmoved_spaced m q e) ∙ sym all_passes) i; outcome = outcome_still i }
 
     -- the last of the passes
     pub last_end : {b : Bool} → stability_passes ≤ n → any_short m q ≡ b → record { lsps = q; outcome = cond b Previous Moved } ≡ stabilised m p

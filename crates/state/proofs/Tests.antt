@@ -2,8 +2,9 @@
 use mathlib.Core.Path.{◌≡◌, refl, sym, ap, ◌∙◌, subst}
 use mathlib.Core.Bool.{Bool, true, false, not, ◌&&◌}
 use mathlib.Core.Logic.{⊎_elim}
-use Prim.Native.Nat.{ℕ, zero, suc, ◌≤◌, ◌<◌}
+use Prim.Native.Nat.{ℕ, zero, suc, ◌+◌, ◌≤◌, ◌<◌}
 use native.Mathlib.Nat.{eq-or-lt_of_le}
+use native.Mathlib.Numerals.{add-one}
 use native.Mathlib.Omega.{arith}
 use lib.Dec.{T}
 use lib.IntN.{ℤ}
@@ -36,6 +37,14 @@ module _ (lo hi z : ℤ) where
 -- ---- the first n tests
 
 module _ (t : ℕ → Bool) where
+  pub all_zero : all_to t 0 ≡ true
+  unfolding all_to
+  all_zero = refl
+
+  pub all_step : (n : ℕ) → all_to t (n + 1) ≡ (all_to t n && t n)
+  unfolding all_to
+  all_step n = ap (all_to t) (add-one n)
+
   pub all_at : (n : ℕ) → all_to t n ≡ true → (i : ℕ) → i < n → t i ≡ true
   unfolding all_to
   all_at zero h i p = absurd (let z : ⊥ = omega arith in z)
@@ -48,6 +57,14 @@ module _ (t : ℕ → Bool) where
   unfolding all_to
   all_from zero h = refl
   all_from (suc n) h = λ i. all_from n (λ j p. h j (omega arith)) i && h n (omega arith) i
+
+  -- where one of them fails
+  pub all_fails : (n i : ℕ) → i < n → t i ≡ false → false ≡ all_to t n
+  all_fails n i p h = decided (all_to t n) refl
+    where
+      decided : (b : Bool) → all_to t n ≡ b → false ≡ b
+      decided true e = sym h ∙ all_at n e i p
+      decided false e = refl
 
 -- no more tests
 and_true : (b : Bool) → (b && true) ≡ b

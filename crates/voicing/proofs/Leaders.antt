@@ -2,15 +2,10 @@
 use Rattle.std.specs.Prelude.{◌≡◌, refl, Bool, true, false, cond, ◌&&◌, Option, Some, None, List, ℕ, suc, ◌+◌, ◌-◌, ◌≤◌, ltb, ℤ}
 use Rattle.std.specs.Bool.{then_some}
 use Rattle.std.proofs.Common.{sym, ap, ◌∙◌, subst, arith}
-use Rattle.voicing.specs.Voicing.{counts, rank, score, gated, candidate, first_highest, leading_lag, voicing_of}
+use Rattle.voicing.specs.Voicing.{counts, score, gated, candidate, first_highest, leading_lag, voicing_of}
 use Rattle.voicing.specs.Search.{score_of, IsRanked, Weighs}
 use Rattle.voicing.specs.declared.Ranked.{Ranked}
-
-module _ (y : List ℤ) where
-  weighs_score : (m : ℕ) (w : Option Ranked) → Weighs y m w → score_of w ≡ score y m
-  unfolding score
-  weighs_score m None h = ap (λ (b : Bool). cond b (suc (rank y m)) 0) (sym h)
-  weighs_score m (Some w) h = ap suc h.rank ∙ ap (λ (b : Bool). cond b (suc (rank y m)) 0) (sym h.counts)
+use Rattle.voicing.proofs.Scores.{weighs_score}
 
 module _ (y : List ℤ) (centre : ℕ) where
   -- ---- the search
@@ -66,12 +61,21 @@ module _ (y : List ℤ) (centre : ℕ) where
     passes : (counts y m && gated y m) ≡ w.gated
     passes = ap (λ (b : Bool). b && gated y m) h.counts ∙ sym h.gated
 
-    answered : (t : Bool) → (counts y m && gated y m) ≡ t → then_some t w.lag ≡ voicing_of y centre
-    answered true p = ap Some h.lag ∙ answer p
-    answered false p = answer p
+    gated_lag : (t : Bool) → (counts y m && gated y m) ≡ t → then_some t w.lag ≡ voicing_of y centre
+    gated_lag true p = ap Some h.lag ∙ answer p
+    gated_lag false p = answer p
 
     pub counted : then_some w.gated w.lag ≡ voicing_of y centre
-    counted = answered w.gated passes
+    counted = gated_lag w.gated passes
 
   pub uncounted : counts y m ≡ false → None ≡ voicing_of y centre
   uncounted h = answer (ap (λ (b : Bool). b && gated y m) h)
+
+  -- of one that counts and passes the gate its lag
+  abbrev answer_of : Option Ranked → Option ℕ
+  answer_of None = None
+  answer_of (Some w) = then_some w.gated w.lag
+
+  pub answered : (w : Option Ranked) → Weighs y (leading_lag y centre) w → answer_of w ≡ voicing_of y centre
+  answered None h = uncounted h
+  answered (Some w) h = counted w h

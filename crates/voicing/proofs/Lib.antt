@@ -1,3 +1,4 @@
 pub mod Highest
 pub mod Weights
+pub mod Scores
 pub mod Leaders

@@ -2,3 +2,4 @@
 pub mod Columns
 pub mod Pairs
 pub mod Shifts
+pub mod Squares

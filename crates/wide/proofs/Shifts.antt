@@ -1,5 +1,5 @@
 -- A pair h * P + l times K, where K * Q is the base P: what a digit has from Q on crosses into the next. Assumes nothing.
-use Rattle.std.proofs.Common.{◌≡◌, ℕ, ◌+◌, ◌-◌, ◌*◌, ◌/◌, ◌%◌, ◌^◌, ◌<◌, ◌≤◌, sym, ap, ◌∙◌, subst, mul-le-mul_right, mod-lt, mod-eq_of_lt, div-lt_iff_lt-mul, lt_of_mul-lt-mul_right, mul-lt-mul_of_pos_right, div-add-mod', arith, pow-add}
+use Rattle.std.proofs.Common.{◌≡◌, ℕ, ◌+◌, ◌-◌, ◌*◌, ◌/◌, ◌%◌, ◌^◌, ◌<◌, ◌≤◌, sym, ap, ◌∙◌, subst, mul-le-mul_right, mod-lt, mod-eq_of_lt, div-lt_iff_lt-mul, lt_of_mul-lt-mul_right, mul-lt-mul_of_pos_right, div-add-mod', mul-one, arith, pow-add}
 use native.Mathlib.Nat.{mul-mod_left}
 use lib.Arith.{digits_lt, digits_mod, digits_div}
 use Rattle.wide.proofs.Pairs.{mod-square}
@@ -10,6 +10,9 @@ pub power-split : (a n : ℕ) → a ≤ n → 2 ^ a * 2 ^ (n - a) ≡ 2 ^ n
 power-split a n h = sym (pow-add 2 a (n - a)) ∙ ap (λ (x : ℕ). 2 ^ x) (omega arith)
 
 -- ---- a pair times K
+
+pub by_one : (D x n : ℕ) → x < D → n ≡ 0 → x ≡ x * 2 ^ n % D
+by_one D x n h e = sym (ap (λ (k : ℕ). x * 2 ^ k % D) e ∙ ap (λ (y : ℕ). y % D) (mul-one x) ∙ mod-eq_of_lt h)
 
 -- by a digit and more
 pub by_digit : (P K h l : ℕ) → 0 < P → l * K % P * P + 0 ≡ (h * P + l) * (P * K) % (P * P)

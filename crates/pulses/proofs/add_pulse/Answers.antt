@@ -1,5 +1,5 @@
 use Rattle.std.proofs.Common.{arith}
-use Rattle.pulses.proofs.Repeats.{repeating_start, sum_fits, repeating_sum, repeating_end}
+use Rattle.pulses.proofs.Repeats.{repeating_start, sum_fits, repeating_sum, repeating_sum_end}
 use Rattle.pulses.proofs.add_pulse.Goals as goal
 
 pub loop-j-init : goal.loop-j-init
@@ -12,10 +12,10 @@ pub loop-j-preserved : goal.loop-j-preserved
 loop-j-preserved c = repeating_sum c.loop-j.invariant c.requires.all_within c.requires.within c.loop-j-test.true c.requires.step_nonzero
 
 pub returns : goal.returns
-returns c = repeating_end c.loop-j.invariant c.requires.within c.loop-j-test.false
+returns c = repeating_sum_end c.loop-j.invariant c.requires.within c.loop-j-test.false
 
 -- the next sample is past the last
 pub returns-2 : goal.returns-2
 returns-2 c =
     let next = repeating_sum c.loop-j.invariant c.requires.all_within c.requires.within c.loop-j-test.true c.requires.step_nonzero in
-    repeating_end next c.requires.within (omega arith)
+    repeating_sum_end next c.requires.within (omega arith)
