@@ -9,20 +9,44 @@
 // is no frame), and the checksums of the samples and of the state.
 #![tactic(auto)]
 
+ghost use Rattle.std.specs.Prelude.{◌≤◌};
+ghost use Rattle.calls.specs.declared.TheConstants.{MAX_SAMPLES};
+ghost use Rattle.calls.specs.declared.line.TheConstants.{MAX_BYTES};
+
 mod checksum;
 mod image;
 mod line;
 
-use anyhow::bail;
 use checksum::Checksum;
-use line::Line;
+use line::{Line, MAX_BYTES};
 use state::State;
-use std::alloc::Global;
-use std::io::{self, BufRead, BufReader, BufWriter, Write};
+use std::fmt::{self, Write};
 use verdict::Verdict;
 
 // The code where no frame was decoded.
 const NO_OUTCOME: u8 = 3;
+
+// The most samples that are lent.
+const MAX_SAMPLES: usize = 300;
+
+// A proved program has to end.
+const MAX_LINES: u32 = 1_000_000;
+
+// Standard output, written as it comes, so that a line is answered before the next is read. What cannot be written is passed
+// over: the answers go on.
+#[derive(Drop)]
+struct Output;
+
+impl Output {
+    const FD: i32 = 1;
+}
+
+impl fmt::Write for Output {
+    fn write_str(&mut self, s: &str) -> fmt::Result {
+        let _ = io::write_all(Output::FD, s.as_bytes());
+        Ok(())
+    }
+}
 
 // What a line is answered, but for the state's checksum, and the state after it. A state that is given has no verdict.
 #[derive(Clone, Copy)]
@@ -53,43 +77,55 @@ impl Turn {
     }
 }
 
-// A record, with samples that are all marked before.
-fn decoded(alloc: Global, line: &Line<'_>, state: State) -> anyhow::Result<Turn> {
-    let mut samples = vec![in alloc; line.second.cast_signed(); usize::from(line.first)]?;
-    let answer = decoder::decode(state, line.bytes.as_slice(), samples.as_mut_slice());
-    Ok(Turn {
-        verdict: Some(answer.verdict),
-        samples: Checksum::NONE.with(samples.as_slice()),
-        state: answer.state,
-    })
-}
-
-fn answered(alloc: Global, line: &Line<'_>, state: State) -> anyhow::Result<Turn> {
-    match line.letter {
-        "F" => Ok(Turn::given(state::fresh(line.first == 1))),
-        "S" => Ok(Turn::given(image::state_of(line.bytes.as_slice())?)),
-        "D" => decoded(alloc, line, state),
-        letter => bail!("no line begins with {letter:?}"),
+// How many bytes and samples are lent: with more samples asked for than there are, all of both.
+fn lent(line: &Line) -> (usize, usize)
+    ensures bytes { result.0 ≤ MAX_BYTES }
+    ensures samples { result.1 ≤ MAX_SAMPLES }
+{
+    let samples = usize::from(line.first);
+    if samples <= MAX_SAMPLES {
+        (usize::from(line.count), samples)
+    } else {
+        (MAX_BYTES, MAX_SAMPLES)
     }
 }
 
-fn main(rt: HostRuntime) -> anyhow::Result<()> {
-    let mut out = BufWriter::new(rt.alloc(), io::writer(&rt))?;
+// A record, with samples that are all marked before.
+fn decoded(line: &Line, state: State) -> Turn {
+    let (bytes, length) = lent(line);
+    let mut marked = [line.second.cast_signed(); MAX_SAMPLES];
+    let samples = &mut marked[..length];
+    let answer = decoder::decode(state, &line.bytes[..bytes], samples);
+    Turn {
+        verdict: Some(answer.verdict),
+        samples: Checksum::NONE.with(samples),
+        state: answer.state,
+    }
+}
+
+fn answered(line: &Line, state: State) -> Turn {
+    match line.letter {
+        b'D' => decoded(line, state),
+        b'S' => Turn::given(image::state_of(&line.bytes)),
+        _ => Turn::given(state::fresh(line.first == 1)),
+    }
+}
+
+fn main() {
     let mut state = state::fresh(true);
-    for text in BufReader::new(rt.alloc(), rt.reader())?.lines(rt.alloc()) {
-        let text = text?;
-        let line = Line::parse(rt.alloc(), text.as_str())?;
-        let turn = answered(rt.alloc(), &line, state)?;
+    for _ in 0..MAX_LINES {
+        let Some(line) = Line::next() else {
+            break;
+        };
+        let turn = answered(&line, state);
         state = turn.state;
         let sum = checksum::of_state(&state);
-        writeln!(
-            out,
+        let _ = writeln!(
+            Output,
             "{} {} {} {sum}",
             turn.number(),
             turn.outcome_code(),
             turn.samples
-        )?;
+        );
     }
-    out.flush()?;
-    Ok(())
 }
