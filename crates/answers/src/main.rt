@@ -1,40 +1,48 @@
 // Answers questions as `oracle layers` of tests/oracle does: a line has a name and decimal numbers, its answer is a
 // line of decimal numbers. The file `stdin` has the questions and `stdout` the oracle's answers (tests/make-answers). A
-// name that is none of the program's is answered by `?`; a number that is missing or does not fit ends the program.
+// question has one space between its words and numbers that fit. Any other input is read as the words that it has: it is
+// answered before more is read, and the program ends with the input, or after a million questions.
 #![tactic(auto)]
 
 mod descriptions;
 mod erasures;
 mod lsps;
+mod names;
 mod operators;
+mod output;
 mod pairs;
 mod signals;
 mod spaced;
 mod words;
 
-use std::io::{self, BufRead, BufReader, BufWriter, Write};
+use output::Output;
 use words::Words;
 
-// Answers the question of a line.
-fn answer(out: &mut impl Write, line: &str) -> anyhow::Result<()> {
-    let (name, mut words) = Words::of_question(line);
-    let known = operators::answer(out, name, &mut words)?
-        || pairs::answer(out, name, &mut words)?
-        || lsps::answer(out, name, &mut words)?
-        || descriptions::answer(out, name, &mut words)?
-        || erasures::answer(out, name, &mut words)?
-        || signals::answer(out, name, &mut words)?;
-    if !known {
-        writeln!(out, "?")?;
+// Answers the next question. A name that is none of the program's has two words after it.
+fn question(out: &mut Output, words: &mut Words) {
+    let name = words.name();
+    if words.ended() {
+        return;
     }
-    Ok(())
+    let known = operators::answer(out, name, words)
+        || pairs::answer(out, name, words)
+        || lsps::answer(out, name, words)
+        || descriptions::answer(out, name, words)
+        || erasures::answer(out, name, words)
+        || signals::answer(out, name, words);
+    if !known {
+        let _: [u64; 2] = words.list();
+        out.line("?");
+    }
 }
 
-fn main(rt: HostRuntime) -> anyhow::Result<()> {
-    let mut out = BufWriter::new(rt.alloc(), io::writer(&rt))?;
-    for line in BufReader::new(rt.alloc(), rt.reader())?.lines(rt.alloc()) {
-        answer(&mut out, line?.as_str())?;
+fn main() {
+    let mut out = Output;
+    let mut words = Words::new();
+    for _ in 0..1_000_000u32 {
+        question(&mut out, &mut words);
+        if words.ended() {
+            break;
+        }
     }
-    out.flush()?;
-    Ok(())
 }
