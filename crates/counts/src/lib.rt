@@ -1,12 +1,11 @@
 // How often each number was given, and the closing lines of these counts.
 #![tactic(auto)]
 
-ghost use Rattle.std.specs.Prelude.{◌≡◌, ◌++◌, [], cond, ltb, ◌≤◌, ◌<◌, ◌+◌, replicate};
+ghost use Rattle.std.specs.Prelude.{◌≡◌, ◌++◌, [], cond, ltb, ◌≤◌, ◌<◌, ◌+◌, length, replicate};
 ghost use Rattle.tables.specs.Constants.{numbers_counted};
-ghost use Rattle.arrayvec.specs.ArrayVec.{array_vec_len};
 ghost use Rattle.counts.specs.Counts.{tally, counted, count_line, closing};
 
-use arrayvec::ArrayVec;
+use array_bytes::ArrayBytes;
 
 // How many numbers are counted, in the width of a number.
 const NUMBERS: u8 = tables::NUMBERS as u8;
@@ -30,11 +29,11 @@ pub fn count(mut tallies: [u64; 12], n: u8) -> [u64; 12]
 }
 
 // The line of n after the text, where n was seen.
-fn close_number(text: &mut ArrayVec<u8, 275>, n: u8, count: u64)
-    requires room { array_vec_len text.old ≤ 250 }
+fn close_number(text: &mut ArrayBytes<275>, n: u8, count: u64)
+    requires room { length text.old.items ≤ 250 }
     requires two_digits { n < 100 }
     ensures items { text.new.items ≡ text.old.items ++ cond (ltb 0 count) (count_line n count) [] }
-    ensures len { array_vec_len text.new ≤ array_vec_len text.old + 25 }
+    ensures len { length text.new.items ≤ length text.old.items + 25 }
 {
     if count == 0 {
         return;
@@ -44,14 +43,14 @@ fn close_number(text: &mut ArrayVec<u8, 275>, n: u8, count: u64)
     let k = io::decimal(count, &mut digits);
     let _fits = text.try_extend_from_slice(&[b'N', b'0' + n / 10, b'0' + n % 10, b' ']);
     let _fits = text.try_extend_from_slice(&digits[..k]);
-    text.push(b'\n');
+    let _fits = text.try_push(b'\n');
 }
 
 // A line for each number that was seen, in ascending number.
-pub fn closing_lines(tallies: [u64; 12]) -> ArrayVec<u8, 275>
+pub fn closing_lines(tallies: [u64; 12]) -> ArrayBytes<275>
     ensures { result.items ≡ closing (tally tallies) }
 {
-    let mut text = ArrayVec::new();
+    let mut text = ArrayBytes::new();
     for n in 1..NUMBERS {
         close_number(&mut text, n, tallies[usize::from(n)]);
     }

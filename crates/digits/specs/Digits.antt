@@ -1,8 +1,8 @@
 -- Hexadecimal text (document 01, "Program `frames`"): digit pairs of either letter case in, four uppercase digits for a sample out.
-use Rattle.std.specs.Prelude.{Bool, true, cond, ◌&&◌, ◌||◌, List, [], ◌∷◌, ◌++◌, ℕ, zero, suc, ◌+◌, ◌-◌, ◌*◌, ◌/◌, ◌%◌, ◌^◌, leb, eqb, ltb, ℤ, pos, ◌+ℤ◌, length, get_or, Option, Some, None}
+use Rattle.std.specs.Prelude.{Bool, true, false, cond, ◌&&◌, ◌||◌, List, [], ◌∷◌, ◌++◌, ℕ, zero, suc, ◌+◌, ◌-◌, ◌*◌, ◌/◌, ◌%◌, ◌^◌, leb, eqb, ltb, ℤ, pos, ◌+ℤ◌, length, get_or, Result, Ok, Err}
 use Rattle.integers.specs.Base.{up, entry, tabulate}
 use Rattle.tables.specs.Constants.{frame_size, line_max}
-use Rattle.arrayvec.specs.ArrayVec.{ArrayVec}
+use Rattle.array_bytes.specs.ArrayBytes.{ArrayBytes}
 
 -- ---- in
 
@@ -18,9 +18,9 @@ is_digit b = among 48 57 b || (among 65 70 b || among 97 102 b)
 unfoldable pub digit_value : ℕ → ℕ
 digit_value b = cond (among 48 57 b) (b - 48) (cond (among 65 70 b) (b - 55) (cond (among 97 102 b) (b - 87) 0))
 
--- both in one: the value of a digit, where it is one
-abbrev pub digit_of : ℕ → Option ℕ
-digit_of b = cond (is_digit b) (Some (digit_value b)) None
+-- both in one number: the value, 16 where there is none
+abbrev pub digit_code : ℕ → ℕ
+digit_code b = cond (is_digit b) (digit_value b) 16
 
 -- the first n characters are digits
 unfoldable pub are_digits : List ℕ → ℕ → Bool
@@ -39,9 +39,13 @@ pair_value text i = 16 * digit_value (get_or text (2 * i) 0) + digit_value (get_
 abbrev pub bytes_of : List ℕ → List ℕ
 bytes_of text = tabulate (pair_value text) (length text / 2)
 
+-- those of a text that is digit pairs or is none
+abbrev pub read_as : Bool → List ℕ → Result ArrayBytes ArrayBytes
+read_as are_pairs bytes = cond are_pairs (Ok (record { items = bytes })) (Err (record { items = bytes }))
+
 -- what `digit_pairs` answers: a text of more than 1,098 characters is not read
-unfoldable pub pairs_of : List ℕ → Option (ArrayVec ℕ)
-pairs_of text = cond (leb (length text) line_max && has_pairs text) (Some (record { items = bytes_of text })) None
+unfoldable pub pairs_of : List ℕ → Result ArrayBytes ArrayBytes
+pairs_of text = cond (leb (length text) line_max) (read_as (has_pairs text) (bytes_of text)) (read_as false [])
 
 -- ---- out
 

@@ -12,9 +12,10 @@ use borrow.Author.Tests.{ltb-true, ltb-false}
 use lib.ListN.{length, take}
 use Rattle.std.specs.Prelude.{Some, None}
 use Rattle.std.specs.List.{position}
-use Rattle.arrayvec.specs.ArrayVec.{ArrayVec}
+use Rattle.array_bytes.specs.ArrayBytes.{ArrayBytes}
 use Rattle.lines.specs.Parts.{line_reply, progress_by, newline_at}
-use Rattle.lines.specs.Stream.{Line, pushed, pushed_all, text_of, end_text, next_line, with_byte, stream_after, answers_from, to_newline, progress_of}
+use Rattle.lines.specs.Stream.{pushed, pushed_all, text_of, end_text, next_line, with_byte, stream_after, answers_from, to_newline, progress_of}
+use Rattle.lines.specs.declared.Line.{Line}
 use Rattle.lines.specs.declared.Stream.{Stream}
 use Rattle.lines.specs.declared.Reply.{Reply}
 use Rattle.lines.proofs.Texts.{reply-progress}
@@ -160,7 +161,7 @@ progress_ended r xs n a h e =
     ∙ reply-progress r.tallies _ _ r.state (newline_at xs + 1)
     ∙ (λ i. record { stream = sym w.carried i; text = text_of (sym w.answers i); used = sym w.used i })
 
-pub progress_going : (r : Stream) (xs : List ℕ) (l : Line) (t : ArrayVec ℕ) → None ≡ position (λ b. eqb b 10) xs → l ≡ pushed_all r.line xs → t.items ≡ []
+pub progress_going : (r : Stream) (xs : List ℕ) (l : Line) (t : ArrayBytes) → None ≡ position (λ b. eqb b 10) xs → l ≡ pushed_all r.line xs → t.items ≡ []
     → record { stream = with_line r l; text = t; used = length xs } ≡ progress_of r xs
 unfolding progress_of
 progress_going r xs l t h e g =

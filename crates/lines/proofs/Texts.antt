@@ -3,28 +3,29 @@ use mathlib.Core.Path.{◌≡◌, refl, ap, ◌∙◌}
 use mathlib.Core.Bool.{Bool, true, false, cond}
 use mathlib.Core.List.{List, []}
 use Prim.Native.Nat.{ℕ}
-use lib.Dec.{eqb}
+use lib.Dec.{eqb, leb}
 use lib.IntN.{ℤ}
-use lib.ListN.{replicate}
-use Rattle.std.specs.Prelude.{Result, Ok, Err, Option, Some, None}
-use Rattle.arrayvec.specs.ArrayVec.{ArrayVec}
-use Rattle.tables.specs.Constants.{numbers_counted}
+use lib.ListN.{length, replicate}
+use Rattle.std.specs.Prelude.{Result, Ok, Err, ◌&&◌}
+use Rattle.array_bytes.specs.ArrayBytes.{ArrayBytes}
+use Rattle.tables.specs.Constants.{numbers_counted, line_max}
 use Rattle.numbers.specs.Numbers.{number}
 use Rattle.numbers.specs.declared.Refusal.{Refusal}
 use Rattle.numbers.specs.declared.Refusal.TheVariants.{SampleLength, StateBounds, NoByte, Kind, Length, LagCode, StepCode, GainIndex, Flags, Signs}
 use Rattle.refusals.specs.Refusals.{number_found}
 use Rattle.refusals.specs.declared.Frame.{Frame}
 use Rattle.refusals.specs.declared.Frame.TheVariants.{Erased, Received}
-use Rattle.digits.specs.Digits.{sample_line, bytes_of, pairs_of}
+use Rattle.digits.specs.Digits.{sample_line, has_pairs, bytes_of, read_as, pairs_of}
 use Rattle.counts.specs.Counts.{counted}
 use Rattle.decoder.specs.Decoder.{examined, answer_to, answer_of, samples_of}
 use Rattle.decoder.specs.declared.Answer.{Answer}
 use Rattle.state.specs.State.{fresh_state}
 use Rattle.state.specs.declared.State.{State}
 use Rattle.lines.specs.Replies.{lent_samples, refusal_line, number_for, state_for, text_for, is_record_line}
-use Rattle.lines.specs.Stream.{Line, text_of, is_begun, blank, fresh_stream, next_line, end_text, ended_of, finished}
+use Rattle.lines.specs.Stream.{text_of, is_begun, blank, fresh_stream, next_line, end_text, ended_of, finished}
 use Rattle.lines.specs.Parts.{answer_number, answer_line, answered, reply_of, line_reply, progress_by}
 use Rattle.lines.specs.declared.LineRefusal.{LineRefusal}
+use Rattle.lines.specs.declared.Line.{Line}
 use Rattle.lines.specs.declared.Stream.{Stream}
 use Rattle.lines.specs.declared.Progress.{Progress}
 use Rattle.lines.specs.declared.Reply.{Reply}
@@ -85,20 +86,22 @@ decoded_is s bytes a xs r ea ex er = λ i. record { state = (ea i).state; answer
 
 -- ---- a text as digit pairs
 
-pairs : (t : Bool) (bytes : List ℕ) (p : Option (ArrayVec ℕ)) → p ≡ cond t (Some (record { items = bytes })) None
-    → elim p as (λ _. Type 0) [ None ↦ t ≡ false | Some v ↦ (t ≡ true) × (v.items ≡ bytes) ]
-pairs true bytes None e = absurd (let z : ⊥ = cc in z)
-pairs true bytes (Some v) e = (refl, cc)
-pairs false bytes None e = refl
-pairs false bytes (Some v) e = absurd (let z : ⊥ = cc in z)
+pairs : (short t : Bool) (bytes : List ℕ) (p : Result ArrayBytes ArrayBytes) → p ≡ cond short (read_as t bytes) (read_as false [])
+    → elim p as (λ _. Type 0) [ Err v ↦ (short && t) ≡ false | Ok v ↦ ((short && t) ≡ true) × (v.items ≡ bytes) ]
+pairs true true bytes (Err v) e = absurd (let z : ⊥ = cc in z)
+pairs true true bytes (Ok v) e = (refl, cc)
+pairs true false bytes (Err v) e = refl
+pairs true false bytes (Ok v) e = absurd (let z : ⊥ = cc in z)
+pairs false t bytes (Err v) e = refl
+pairs false t bytes (Ok v) e = absurd (let z : ⊥ = cc in z)
 
-pub pairs_some : (text : List ℕ) (v : ArrayVec ℕ) → Some v ≡ pairs_of text → (is_record_line text ≡ true) × (v.items ≡ bytes_of text)
+pub pairs_some : (text : List ℕ) (v : ArrayBytes) → Ok v ≡ pairs_of text → (is_record_line text ≡ true) × (v.items ≡ bytes_of text)
 unfolding pairs_of
-pairs_some text v e = pairs (is_record_line text) (bytes_of text) (Some v) e
+pairs_some text v e = pairs (leb (length text) line_max) (has_pairs text) (bytes_of text) (Ok v) e
 
-pub pairs_none : (text : List ℕ) → None ≡ pairs_of text → is_record_line text ≡ false
+pub pairs_none : (text : List ℕ) (v : ArrayBytes) → Err v ≡ pairs_of text → is_record_line text ≡ false
 unfolding pairs_of
-pairs_none text e = pairs (is_record_line text) (bytes_of text) None e
+pairs_none text v e = pairs (leb (length text) line_max) (has_pairs text) (bytes_of text) (Err v) e
 
 -- ---- the end of a line
 
@@ -112,7 +115,7 @@ pub finish_begun : (r : Stream) (f : Progress) → is_begun r.line ≡ true → 
 unfolding finished
 finish_begun r f h e = rw h e
 
-pub finish_none : (r : Stream) (t : ArrayVec ℕ) → is_begun r.line ≡ false → t.items ≡ [] → record { stream = r; text = t; used = 0 } ≡ finished r
+pub finish_none : (r : Stream) (t : ArrayBytes) → is_begun r.line ≡ false → t.items ≡ [] → record { stream = r; text = t; used = 0 } ≡ finished r
 unfolding finished
 finish_none r t h e = rw h (λ i. record { stream = r; text = text_of (e i); used = 0 })
 

@@ -9,7 +9,8 @@ use Rattle.digits.specs.Digits.{bytes_of, sample_line}
 use Rattle.counts.specs.Counts.{counted}
 use Rattle.state.specs.declared.State.{State}
 use Rattle.lines.specs.Replies.{lent_samples, refusal_line, state_for, is_record_line}
-use Rattle.lines.specs.Stream.{Line, blank, characters, is_record, text_of}
+use Rattle.lines.specs.Stream.{blank, characters, is_record, text_of}
+use Rattle.lines.specs.declared.Line.{Line}
 use Rattle.lines.specs.declared.Progress.{Progress}
 use Rattle.lines.specs.declared.LineRefusal.{LineRefusal}
 use Rattle.lines.specs.declared.LineRefusal.TheVariants.{Record, NoRecord}

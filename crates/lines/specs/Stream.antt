@@ -1,24 +1,23 @@
 -- What is carried from one piece of the input to the next, and what each piece adds to it and to the output: the code's structs.
-use Rattle.std.specs.Prelude.{Bool, true, false, cond, List, [], ◌∷◌, ◌++◌, ℕ, eqb, ltb, length, replicate, Option, Some, None}
+use Rattle.std.specs.Prelude.{Bool, true, false, cond, not, ◌&&◌, ◌||◌, List, [], ◌∷◌, ◌++◌, ℕ, eqb, ltb, length, replicate}
 use Rattle.tables.specs.Constants.{line_max, numbers_counted}
 use Rattle.digits.specs.Digits.{has_pairs, bytes_of}
 use Rattle.counts.specs.Counts.{counted}
 use Rattle.state.specs.State.{fresh_state}
 use Rattle.lines.specs.Replies.{number_for, state_for, text_for}
-use Rattle.arrayvec.specs.ArrayVec.{ArrayVec}
+use Rattle.array_bytes.specs.ArrayBytes.{ArrayBytes}
+use Rattle.lines.specs.declared.Line.{Line}
 use Rattle.lines.specs.declared.Stream.{Stream}
 use Rattle.lines.specs.declared.Progress.{Progress}
 
 -- ---- a line that has not ended
 
--- its characters, or None where there are more than 1,098
-abbrev pub Line : Type 0
-Line = Option (ArrayVec ℕ)
-
 -- one character more: it is kept where there is room for it
 unfoldable pub pushed : Line → ℕ → Line
-pushed None b = None
-pushed (Some t) b = cond (ltb (length t.items) line_max) (Some (record { items = t.items ++ (b ∷ []) })) None
+pushed l b =
+    cond (ltb (length l.text.items) line_max)
+    (record { text = record { items = l.text.items ++ (b ∷ []) }; over = l.over })
+    (record { text = l.text; over = true })
 
 -- the characters xs more
 unfoldable pub pushed_all : Line → List ℕ → Line
@@ -27,22 +26,19 @@ pushed_all l (b ∷ xs) = pushed_all (pushed l b) xs
 
 -- none of it yet
 abbrev pub blank : Line
-blank = Some (record { items = [] })
+blank = record { text = record { items = [] }; over = false }
 
 -- its characters
 abbrev pub characters : Line → List ℕ
-characters None = []
-characters (Some t) = t.items
+characters l = l.text.items
 
 -- it is a record: digit pairs, and not too long
 abbrev pub is_record : Line → Bool
-is_record None = false
-is_record (Some t) = has_pairs t.items
+is_record l = not l.over && has_pairs (characters l)
 
 -- there is something of it
 abbrev pub is_begun : Line → Bool
-is_begun None = true
-is_begun (Some t) = ltb 0 (length t.items)
+is_begun l = ltb 0 (length (characters l)) || l.over
 
 -- ---- from piece to piece
 
@@ -85,7 +81,7 @@ answers_from r (b ∷ xs) = cond (eqb b 10) (end_text r) [] ++ answers_from (wit
 -- ---- what the functions answer
 
 -- a text that is to be written
-abbrev pub text_of : List ℕ → ArrayVec ℕ
+abbrev pub text_of : List ℕ → ArrayBytes
 text_of l = record { items = l }
 
 -- a piece of the input to its first newline, with it

@@ -6,16 +6,20 @@ ghost use Rattle.std.specs.List.{position};
 ghost use Rattle.lines.specs.Stream.{pushed_all, blank, is_begun, fresh_stream, text_of, progress_of, finished};
 ghost use Rattle.lines.specs.Parts.{refusal_number, answer_number, answer_line, answered, reply_of, line_reply, text_reply, progress_by};
 
-use arrayvec::ArrayVec;
+use array_bytes::ArrayBytes;
 use numbers::Refusal;
 use state::State;
 use verdict::Verdict;
 
-// The characters of a line that has not ended, or None where there are more of them than a record's line may have.
-pub type Line = Option<ArrayVec<u8, 1098>>;
+// A line that has not ended: its characters, as many as a record's line may have, and whether there were more.
+#[derive(Clone, Copy)]
+pub struct Line {
+    pub text: ArrayBytes<1098>,
+    pub over: bool,
+}
 
 // What is carried from one piece of the input to the next. `tallies` counts lines by number, those with samples at 0.
-#[derive(Clone, Drop)]
+#[derive(Clone, Copy)]
 pub struct Stream {
     pub state: State,
     pub line: Line,
@@ -23,10 +27,10 @@ pub struct Stream {
 }
 
 // What a call took of a piece, and what is to be written: the answer to a line that ended, with its newline, or nothing.
-#[derive(Clone, Drop)]
+#[derive(Clone, Copy)]
 pub struct Progress {
     pub stream: Stream,
-    pub text: ArrayVec<u8, 961>,
+    pub text: ArrayBytes<961>,
     pub used: usize,
 }
 
@@ -59,29 +63,31 @@ impl From<LineRefusal> for u8 {
 fn blank_line() -> Line
     ensures { result ≡ blank }
 {
-    Some(ArrayVec::new())
+    Line {
+        text: ArrayBytes::new(),
+        over: false,
+    }
 }
 
 // Whether there is anything of the line.
 fn is_begun(line: &Line) -> bool
     ensures { result ≡ is_begun line.now }
 {
-    match line {
-        Some(text) => !text.is_empty(),
-        None => true,
-    }
+    !line.text.is_empty() || line.over
 }
 
-// The line with the characters `part` more.
-fn append(line: Line, part: &[u8]) -> Line
-    ensures { result ≡ pushed_all line part.now }
+// The line with the characters `part` more: those that there is room for.
+fn append(line: &Line, part: &[u8]) -> Line
+    ensures { result ≡ pushed_all line.now part.now }
 {
-    let mut text = line?;
-    if text.remaining_capacity() < part.len() {
-        return None;
+    let mut text = line.text;
+    let room = text.remaining_capacity();
+    let kept = part.len().min(room);
+    let _fits = text.try_extend_from_slice(&part[..kept]);
+    Line {
+        text,
+        over: line.over | (part.len() > room),
     }
-    let _fits = text.try_extend_from_slice(part);
-    Some(text)
 }
 
 // The place of the first newline.
@@ -101,14 +107,14 @@ fn answer_number(answer: &Result<[i16; 240], LineRefusal>) -> u8
     }
 }
 
-fn answer_text(answer: Result<[i16; 240], LineRefusal>) -> ArrayVec<u8, 961>
-    ensures { result ≡ text_of (answer_line answer) }
+fn answer_text(answer: &Result<[i16; 240], LineRefusal>) -> ArrayBytes<961>
+    ensures { result ≡ text_of (answer_line answer.now) }
 {
     match answer {
-        Ok(samples) => ArrayVec::from(digits::sample_line(samples)),
+        Ok(samples) => ArrayBytes::from(digits::sample_line(*samples)),
         Err(refusal) => {
-            let n = u8::from(refusal);
-            let mut text = ArrayVec::new();
+            let n = u8::from(*refusal);
+            let mut text = ArrayBytes::new();
             // By hand, as the closing lines are (crate `counts`): nothing says that `writeln!` succeeds where there is room.
             let _fits = text.try_extend_from_slice(&[b'R', b'0' + n / 10, b'0' + n % 10, b'\n']);
             text
@@ -126,11 +132,11 @@ fn answered(verdict: Verdict, samples: [i16; 240]) -> Result<[i16; 240], LineRef
     }
 }
 
-fn decoded(given: State, bytes: &[u8]) -> Reply
-    ensures { result ≡ reply_of true bytes.now given }
+fn decoded(given: &State, bytes: &[u8]) -> Reply
+    ensures { result ≡ reply_of true bytes.now given.now }
 {
     let mut samples = [0; 240];
-    let a = decoder::decode(given, bytes, &mut samples);
+    let a = decoder::decode(*given, bytes, &mut samples);
     Reply {
         state: a.state,
         answer: answered(a.verdict, samples),
@@ -139,48 +145,50 @@ fn decoded(given: State, bytes: &[u8]) -> Reply
 
 // The answer where there is no record, which changes no state.
 #[tactic(auto, unfolding(crate::specs::Parts::reply_of, crate::specs::Replies::state_for))]
-fn no_record(given: State) -> Reply
-    ensures { (bytes : List ℕ) → result ≡ reply_of false bytes given }
+fn no_record(given: &State) -> Reply
+    ensures { (bytes : List ℕ) → result ≡ reply_of false bytes given.now }
 {
     Reply {
-        state: given,
+        state: *given,
         answer: Err(LineRefusal::NoRecord),
     }
 }
 
 // The answer to the text of a line.
-fn text_reply(given: State, text: &[u8]) -> Reply
-    ensures { result ≡ text_reply text.now given }
+fn text_reply(given: &State, text: &[u8]) -> Reply
+    ensures { result ≡ text_reply text.now given.now }
 {
     match digits::digit_pairs(text) {
-        Some(bytes) => decoded(given, &bytes),
-        None => no_record(given),
+        Ok(bytes) => decoded(given, &bytes),
+        Err(_) => no_record(given),
     }
 }
 
 // The answer to a line with the characters `part` more. A line that stands whole in a piece is read there.
-fn part_reply(given: State, line: Line, part: &[u8]) -> Reply
-    ensures { result ≡ line_reply (pushed_all line part.now) given }
+fn part_reply(given: &State, line: &Line, part: &[u8]) -> Reply
+    ensures { result ≡ line_reply (pushed_all line.now part.now) given.now }
 {
-    if is_begun(&line) {
-        return line_reply(given, append(line, part));
+    if is_begun(line) {
+        return line_reply(given, &append(line, part));
     }
     text_reply(given, part)
 }
 
 // The answer to a line as it is kept.
-fn line_reply(given: State, line: Line) -> Reply
-    ensures { result ≡ line_reply line given }
+fn line_reply(given: &State, line: &Line) -> Reply
+    ensures { result ≡ line_reply line.now given.now }
 {
-    match line {
-        Some(text) => text_reply(given, &text),
-        None => no_record(given),
+    if line.over {
+        return no_record(given);
     }
+    text_reply(given, &line.text)
 }
 
-// What is carried on after an answer: its state, a new line, and its number counted.
-fn progress_by(tallies: [u64; 12], reply: Reply, used: usize) -> Progress
-    ensures { result ≡ progress_by tallies reply used }
+// What is carried on after an answer: its state, a new line, and its number counted. Inlined, so that it is made in its place:
+// where a call returns it, the place is cleared before.
+#[inline(always)]
+fn progress_by(tallies: [u64; 12], reply: &Reply, used: usize) -> Progress
+    ensures { result ≡ progress_by tallies reply.now used }
 {
     Progress {
         stream: Stream {
@@ -188,7 +196,7 @@ fn progress_by(tallies: [u64; 12], reply: Reply, used: usize) -> Progress
             line: blank_line(),
             tallies: counts::count(tallies, answer_number(&reply.answer)),
         },
-        text: answer_text(reply.answer),
+        text: answer_text(&reply.answer),
         used,
     }
 }
@@ -208,23 +216,18 @@ pub fn start() -> Stream
 pub fn feed(given: Stream, input: &[u8]) -> Progress
     ensures { result ≡ progress_of given input.now }
 {
-    let Stream {
-        state,
-        line,
-        tallies,
-    } = given;
-    match newline(input) {
-        Some(end) => progress_by(tallies, part_reply(state, line, &input[..end]), end + 1),
-        None => Progress {
+    let Some(end) = newline(input) else {
+        return Progress {
             stream: Stream {
-                state,
-                line: append(line, input),
-                tallies,
+                line: append(&given.line, input),
+                ..given
             },
-            text: ArrayVec::new(),
+            text: ArrayBytes::new(),
             used: input.len(),
-        },
-    }
+        };
+    };
+    let reply = part_reply(&given.state, &given.line, &input[..end]);
+    progress_by(given.tallies, &reply, end + 1)
 }
 
 // The end of the input: a line that no newline ended is answered too.
@@ -232,11 +235,11 @@ pub fn finish(given: Stream) -> Progress
     ensures { result ≡ finished given }
 {
     if is_begun(&given.line) {
-        return progress_by(given.tallies, line_reply(given.state, given.line), 0);
+        return progress_by(given.tallies, &line_reply(&given.state, &given.line), 0);
     }
     Progress {
         stream: given,
-        text: ArrayVec::new(),
+        text: ArrayBytes::new(),
         used: 0,
     }
 }

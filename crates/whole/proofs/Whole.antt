@@ -16,9 +16,10 @@ use Rattle.state.specs.State.{fresh_state}
 use Rattle.state.specs.declared.State.{State}
 use Rattle.lines.specs.Replies.{line_number, line_state, line_text}
 use Rattle.whole.specs.Output.{lines_from, lines_of, text_from, numbers_from, answers_to, printed_count}
-use Rattle.lines.specs.Stream.{Line, pushed, blank, is_begun, text_of, fresh_stream, end_number, end_text, next_line, stream_after, answers_from, ended_of, finished}
+use Rattle.lines.specs.Stream.{pushed, blank, is_begun, text_of, fresh_stream, end_number, end_text, next_line, stream_after, answers_from, ended_of, finished}
 use Rattle.lines.specs.Parts.{answer_number, answer_line, line_reply, text_reply}
 use Rattle.whole.specs.Whole.{written, written_counts, pieces_text, joined, last_progress, OutputOfPieces, PrintedCounts, OutputAscends}
+use Rattle.lines.specs.declared.Line.{Line}
 use Rattle.lines.specs.declared.Stream.{Stream}
 use Rattle.lines.specs.declared.Progress.{Progress}
 use Rattle.digits.proofs.Characters.{either}

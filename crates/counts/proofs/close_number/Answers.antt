@@ -10,6 +10,7 @@ returns-clause-items c =
     let ds = take k c.decimal-k.new.out in
     let named : c.try_extend_from_slice-fits.new.self.items ≡ l ++ 78 ∷ (48 + a.n / 10) ∷ (48 + a.n % 10) ∷ 32 ∷ [] = search rules in
     let counted : c.try_extend_from_slice-fits-2.new.self.items ≡ c.try_extend_from_slice-fits.new.self.items ++ ds = search rules in
-    c.push.ensures.items
+    let ended : c.try_push-fits.new.self.items ≡ c.try_extend_from_slice-fits-2.new.self.items ++ 10 ∷ [] = search rules in
+    ended
     ∙ ap (λ (t : List ℕ). t ++ 10 ∷ []) (counted ∙ ap (λ (t : List ℕ). t ++ ds) named)
     ∙ line_parts l ds a.n a.count k (omega arith) c.ranges.count.fits c.decimal-k.ensures.len c.decimal-k.ensures.digits

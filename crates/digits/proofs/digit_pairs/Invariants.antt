@@ -1,5 +1,5 @@
 use Rattle.digits.proofs.Reading.{Reading}
 use Rattle.digits.proofs.digit_pairs.Given as goal
 
-abbrev pub invariant-loop-a : goal.invariant-loop-a
-invariant-loop-a l = Reading l.fn.text l.bytes.items l.a-index
+abbrev pub invariant-loop-i : goal.invariant-loop-i
+invariant-loop-i l = Reading l.fn.text l.read l.are_pairs l.i

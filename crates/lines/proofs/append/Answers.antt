@@ -1,17 +1,18 @@
-use Rattle.std.proofs.Common.{rules, sym, ap, ◌∙◌, arith}
-use Rattle.lines.specs.Stream.{Line, pushed_all}
-use Rattle.lines.proofs.Kept.{append-none, append_fits, append-over}
+use Rattle.std.proofs.Common.{rules, ◌≡◌, ◌≤◌, ◌++◌, ◌-◌, ◌∙◌, sym, ap, length, take, ltb, ◌||◌, min, arith}
+use Rattle.lines.proofs.Kept.{append_is, take-min}
 use Rattle.lines.proofs.append.Goals as goal
-
-pub returns-in_err-text : goal.returns-in_err-text
-returns-in_err-text c =
-    c.from_residual.ensures ∙ append-none c.args.part.now ∙ ap (λ (l : Line). pushed_all l c.args.part.now) (sym c.in_err-text.was)
-
-pub returns-then-remaining_capacity-part : goal.returns-then-remaining_capacity-part
-returns-then-remaining_capacity-part c =
-    append-over c.in_ok-text.text c.args.part.now (omega arith) (omega arith) ∙ ap (λ (l : Line). pushed_all l c.args.part.now) (sym c.in_ok-text.was)
 
 pub returns : goal.returns
 returns c =
-    append_fits c.in_ok-text.text c.try_extend_from_slice-fits.new.self c.args.part.now (omega arith) (search rules)
-    ∙ ap (λ (l : Line). pushed_all l c.args.part.now) (sym c.in_ok-text.was)
+    let l = c.args.line.now in
+    let part = c.args.part.now in
+    let cs = l.text.items in
+    let few : length cs ≤ 1098 = omega (arith, c.remaining_capacity-room.ensures) in
+    let room : 1098 - length cs ≡ c.remaining_capacity-room.result = omega (arith, c.remaining_capacity-room.ensures) in
+    let kept : c.min-kept.result ≡ min (length part) (1098 - length cs) = c.min-kept.ensures ∙ ap (min (length part)) (sym room) in
+    let text : c.try_extend_from_slice-fits.new.self.items ≡ cs ++ take c.min-kept.result part = search rules in
+    sym (append_is l part few
+    ∙ (λ i. record {
+      text = record { items = (ap (λ xs. cs ++ xs) (sym (take-min (1098 - length cs) c.min-kept.result part kept)) ∙ sym text) i };
+      over = l.over || ltb (room i) (length part);
+    }))
